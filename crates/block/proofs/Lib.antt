@@ -1,0 +1,5 @@
+pub mod Rows
+pub mod Sums
+pub mod Places
+pub mod Numbers
+pub mod Groups
