@@ -7,6 +7,7 @@ use Prim.Native.Nat.{ℕ, _+_, _-_, _*_, _/_, _%_, _^_, _<_, _≤_}
 use native.Mathlib.Omega.{arith}
 use native.Mathlib.Decide.{decLt}
 use native.Mathlib.Nat.{mod-lt, add-mul, div-add-mod'}
+use lib.Bits.{bitAnd, and-mask}
 use lib.ListN.{length}
 use lib.Pow.{pow-pos, split, shr-shr}
 use Rattle.block.specs.Rows.{bit, isOne, bitOf, rowOf}
@@ -18,6 +19,13 @@ use Rattle.block.proofs.Numbers.{bit-row, length-row}
 -- the group k of n, as a byte
 abbrev pub group : ℕ → ℕ → ℕ
 group n k = n / 2 ^ (8 * k) % 2 ^ 8
+
+-- as a program reads it
+pub group-is : (n k : ℕ) → bitAnd (n / 2 ^ (8 * k)) 255 ≡ group n k
+group-is n k = and-mask (n / 2 ^ (8 * k)) 8
+
+pub group-lt : (n k : ℕ) → group n k < 2 ^ 8
+group-lt n k = mod-lt (n / 2 ^ (8 * k)) (pow-pos 8)
 
 pub bit-group : (n k j : ℕ) → j < 8 → bitOf (group n k) j ≡ bitOf n (8 * k + j)
 bit-group n k j h =

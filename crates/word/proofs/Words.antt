@@ -4,26 +4,20 @@ use Prim.Native.Nat.{ℕ, suc, _+_, _-_, _*_, _/_, _%_, _^_, _<_, _≤_}
 use native.Mathlib.Nat.{mod-lt, div-add-mod', add-mul, lt-of-not-le}
 use native.Mathlib.Omega.{arith}
 use lib.Arith.{digits-lt, digits-mod}
-use lib.Bits.{bitAnd, and-mask, and-high}
+use lib.Bits.{bitAnd, and-high}
 use lib.Count.{trailingZeros}
 use lib.Pow.{pow-add, pow-pos, pow-lt, shr-lt, shr-mod, shl-exact, split}
 use mathlib.Core.Bool.{Bool, true, false}
 use Rattle.block.specs.Rows.{bit, isOne, rowOf}
 use Rattle.block.specs.Calls.{First}
-use Rattle.block.proofs.Groups.{group}
+use Rattle.block.proofs.Groups.{group, group-is, group-lt}
 use Rattle.block.proofs.Numbers.{bit-row}
 use Rattle.block.proofs.Places.{place, trailing-below, trailing-one, trailing-lt, zero-place, place-kept, place-gone}
 use Rattle.std.specs.declared.option.Option.the-variants.{Some, None}
 
--- the code's old byte, and a byte where it goes
-pub old-is : (x k : ℕ) → bitAnd (x / 2 ^ (8 * k)) 255 ≡ group x k
-old-is x k = and-mask (x / 2 ^ (8 * k)) 8
-
+-- a byte where it goes
 pub shifted : (b k : ℕ) → b < 2 ^ 8 → k < 8 → (b * 2 ^ (8 * k)) % 2 ^ 64 ≡ b * 2 ^ (8 * k)
 shifted b k h l = shl-exact 8 (8 * k) 64 h (omega arith)
-
-pub group-lt : (x k : ℕ) → group x k < 2 ^ 8
-group-lt x k = mod-lt (x / 2 ^ (8 * k)) (pow-pos 8)
 
 -- The quotient q by 2 ^ (8 k) is 256 h + the old byte.
 pub replaced : (x k b : ℕ) → x < 2 ^ 64 → k < 8 → b < 2 ^ 8
@@ -52,7 +46,7 @@ pub record Put (x k b : ℕ) : Type 0 where
 pub put-word : (x k b : ℕ) → x < 2 ^ 64 → k < 8 → b < 2 ^ 8 → Put x k b
 put-word x k b hx hk hb =
     let old : (bitAnd (x / 2 ^ (8 * k)) 255 * 2 ^ (8 * k)) % 2 ^ 64 ≡ group x k * 2 ^ (8 * k) =
-    ap (λ n. (n * 2 ^ (8 * k)) % 2 ^ 64) (old-is x k) ∙ shifted (group x k) k (group-lt x k) hk in
+    ap (λ n. (n * 2 ^ (8 * k)) % 2 ^ 64) (group-is x k) ∙ shifted (group x k) k (group-lt x k) hk in
     let new = shifted b k hb hk in
     let r = replaced x k b hx hk hb in
     record { under = rw old (r .0); fits = rw (old, new) (r .1); is = rw (old, new) (omega arith) }

@@ -1,0 +1,4 @@
+pub mod Tables
+pub mod Sets
+pub mod Swaps
+pub mod MatchStar
