@@ -1,8 +1,8 @@
 mod Stars
 mod Members
 mod Swaps
-mod Tables
+pub mod Tables
 mod Packs
 mod Deliveries
-mod Backs
+pub mod Backs
 mod Halves

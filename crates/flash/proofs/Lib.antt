@@ -1,0 +1,4 @@
+mod Counting
+mod Runs
+mod Listed
+mod Pieces

@@ -1,0 +1,4 @@
+pub mod Flashes
+pub mod Lines
+pub mod Marks
+pub mod Feeding
