@@ -11,18 +11,21 @@ pub use ends::EndPartialEq;
 // A text has at most this many bytes.
 pub const LONGEST_TEXT: usize = 4096;
 
-// The one refusal type of every call. A refused call changes nothing, but for a list whose table is too short.
+// Why a call is refused, one type for all calls. A refused call leaves all as it was, but for a list whose table is too short,
+// which keeps the first ends that fit.
 #[derive(Clone, Copy, PartialEq, Eq, Debug)]
 pub enum Refusal {
     // The block kind is wider than a search takes.
     KindTooWide,
     // The text has more than `LONGEST_TEXT` bytes.
     TextTooLong,
-    // No token starts at `at`, a line feed there is not the text's last byte, or the quote opened there never closes.
+    // No token starts at `at`: a line feed before the text's last byte, a quote that meets a byte that no quote holds or the
+    // text's end before it closes, or a byte that no token begins with.
     NoToken { at: usize },
     // The grammar has no such token at `at`. Where the text ends too early, `at` is its length.
     UnexpectedToken { at: usize },
-    // The word at `at` is an item that falls, a count of copies that is too large, or one below the least count.
+    // The word at `at` is an item whose end is below its start, a count of copies that is too large, or a greatest count below
+    // the least.
     BadNumber { at: usize },
     // The opening bracket at `at` nests too deep.
     TooDeep { at: usize },
@@ -90,5 +93,63 @@ impl Refusal {
             | Refusal::TableTooShort
             | Refusal::BufferTooShort => None,
         }
+    }
+}
+
+#[cfg(test)]
+mod tests {
+    use super::*;
+    use std::test::*;
+
+    const ALL: [Refusal; 15] = [
+        Refusal::KindTooWide,
+        Refusal::TextTooLong,
+        Refusal::NoToken { at: 6 },
+        Refusal::UnexpectedToken { at: 5 },
+        Refusal::BadNumber { at: 11 },
+        Refusal::TooDeep { at: 80 },
+        Refusal::TooHeavy,
+        Refusal::SearchEmpty,
+        Refusal::SearchClosed,
+        Refusal::EndsWaiting,
+        Refusal::TooFewBlocks,
+        Refusal::TooManyBytes,
+        Refusal::RecordingTooLong,
+        Refusal::TableTooShort,
+        Refusal::BufferTooShort,
+    ];
+
+    const PLACES: [Option<usize>; 15] = [
+        Some(0),
+        Some(4096),
+        Some(6),
+        Some(5),
+        Some(11),
+        Some(80),
+        Some(0),
+        None,
+        None,
+        None,
+        None,
+        None,
+        None,
+        None,
+        None,
+    ];
+
+    #[test]
+    fn numbers_count_from_one() -> Result<(), Fail> {
+        for (i, refusal) in ALL.iter().enumerate() {
+            check_eq(usize::from(refusal.number()), i + 1)?;
+        }
+        Ok(())
+    }
+
+    #[test]
+    fn places() -> Result<(), Fail> {
+        for (refusal, place) in ALL.iter().zip(PLACES.iter()) {
+            check_eq(refusal.place(), *place)?;
+        }
+        Ok(())
     }
 }
