@@ -34,7 +34,13 @@ fn step<B: Block>() -> usize
 
 // Whether bytes can be taken: blocks for the basis, a recording within its limit, a place for the end at each byte and
 // `spare` more.
-fn agree(blocks: usize, position: usize, bytes: usize, spare: usize, room: usize) -> Result<(), Refusal>
+fn agree(
+    blocks: usize,
+    position: usize,
+    bytes: usize,
+    spare: usize,
+    room: usize,
+) -> Result<(), Refusal>
     requires within { ⌜ position ≤ 1000000000 ⌝ }
     requires spare { ⌜ spare ≤ 1 ⌝ }
     ensures { λ r. ⌜ Agrees blocks position bytes spare room r ⌝ }
@@ -52,7 +58,13 @@ fn agree(blocks: usize, position: usize, bytes: usize, spare: usize, room: usize
 }
 
 // One block more; its ends go into the table from `count` on.
-fn read_block<B: Block>(reader: Flashes, bytes: &[u8], table: &mut [B], ends: &mut [End], count: usize) -> Result<(Flashes, usize), Refusal>
+fn read_block<B: Block>(
+    reader: Flashes,
+    bytes: &[u8],
+    table: &mut [B],
+    ends: &mut [End],
+    count: usize,
+) -> Result<(Flashes, usize), Refusal>
     requires eight { ⌜ 8 ≤ length (now table) ⌝ }
     requires seen { ⌜ length (now bytes) ≤ answered places ⌝ }
     requires whole { ⌜ (length (now bytes) < answered places) ⊎ (length (now bytes) ≡ places) ⌝ }
@@ -65,7 +77,15 @@ fn read_block<B: Block>(reader: Flashes, bytes: &[u8], table: &mut [B], ends: &m
         number: reader.line,
         start: reader.start,
     };
-    let (line, count) = list_block(marks.complete, marks.feeds, bytes.len(), reader.position, line, ends, count);
+    let (line, count) = list_block(
+        marks.complete,
+        marks.feeds,
+        bytes.len(),
+        reader.position,
+        line,
+        ends,
+        count,
+    );
     let next = Flashes {
         lit: marks.lit,
         position: reader.position + bytes.len(),
@@ -92,7 +112,12 @@ impl Flashes {
     // Takes the recording's next bytes, cut anywhere, and writes the ends at their positions to the table from its first
     // place on; answers how many. Refused, all left: a table of fewer than eight blocks, a recording over its limit, a table
     // of fewer ends than the piece has bytes.
-    pub fn feed<B: Block>(&mut self, piece: &[u8], table: &mut [B], ends: &mut [End]) -> Result<usize, Refusal>
+    pub fn feed<B: Block>(
+        &mut self,
+        piece: &[u8],
+        table: &mut [B],
+        ends: &mut [End],
+    ) -> Result<usize, Refusal>
         ensures { λ r. ⌜ Feeds (now (self .entry)) (now (self .exit)) (now (piece .entry)) (now (table .entry)) (now (table .exit)) (now (ends .entry)) (now (ends .exit)) r ⌝ }
     {
         agree(table.len(), self.position, piece.len(), 0, ends.len())?;
@@ -128,7 +153,11 @@ impl Flashes {
 
 // All ends of a recording, in order, in the table from its first place on; answers how many. Refused, all left: a table of
 // fewer than eight blocks, a recording over its limit, a table of ends with no place more than the recording has bytes.
-pub fn list_flashes<B: Block>(recording: &[u8], table: &mut [B], ends: &mut [End]) -> Result<usize, Refusal>
+pub fn list_flashes<B: Block>(
+    recording: &[u8],
+    table: &mut [B],
+    ends: &mut [End],
+) -> Result<usize, Refusal>
     ensures { λ r. ⌜ Lists (now (recording .entry)) (now (table .entry)) (now (table .exit)) (now (ends .entry)) (now (ends .exit)) r ⌝ }
 {
     agree(table.len(), 0, recording.len(), 1, ends.len())?;

@@ -10,3 +10,5 @@ pub use feeding::list_flashes;
 pub use marks::LINE_FEED;
 pub use marks::LIT;
 pub use reader::Flashes;
+pub use reader::FlashesDebug;
+pub use reader::FlashesPartialEq;

@@ -14,7 +14,15 @@ use refusal::End;
 
 // Writes the ends at the first `n` places to the table from `count` on. Place 0 stands at `base`, in `line`. Answers the
 // line of place `n` and the count of ends that the table then holds.
-pub fn list_block<B: Block>(marks: B, feeds: B, n: usize, base: usize, line: Line, ends: &mut [End], count: usize) -> (Line, usize)
+pub fn list_block<B: Block>(
+    marks: B,
+    feeds: B,
+    n: usize,
+    base: usize,
+    line: Line,
+    ends: &mut [End],
+    count: usize,
+) -> (Line, usize)
     requires seen { ⌜ n ≤ answered places ⌝ }
     requires far { ⌜ base + n ≤ 1000000000 ⌝ }
     requires room { ⌜ count + n ≤ length (now ends) ⌝ }

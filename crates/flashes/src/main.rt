@@ -40,11 +40,21 @@ fn run<B: Block>(rt: &LibcRuntime) -> Result<(), AnyError> {
         position: 0,
     };
     let mut ends = vec![in heap; nowhere; PIECE]?;
-    list(rt, piece.as_mut_slice(), table.as_mut_slice(), ends.as_mut_slice())
+    list(
+        rt,
+        piece.as_mut_slice(),
+        table.as_mut_slice(),
+        ends.as_mut_slice(),
+    )
 }
 
 // Reads, searches and prints piece after piece, and then a run that is still lit.
-fn list<B: Block>(rt: &LibcRuntime, piece: &mut [u8], table: &mut [B], ends: &mut [End]) -> Result<(), AnyError> {
+fn list<B: Block>(
+    rt: &LibcRuntime,
+    piece: &mut [u8],
+    table: &mut [B],
+    ends: &mut [End],
+) -> Result<(), AnyError> {
     let mut text = Vec::new(rt.alloc());
     let mut reader = Flashes::new();
     let mut left = LONGEST;

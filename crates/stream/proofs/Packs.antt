@@ -160,7 +160,7 @@ module _ {B : Type 0} (row : B → List Bool) (w : ℕ) (bytes : List ℕ) (old 
             done =
                 λ j p hj hp.
                 delivered 8 more 0 next (omega arith) (subst (λ n. more < 2 ^ (8 * n)) s (packed-lt gathered (getD bytes i 0) (i % 8) (T .small) byte low))
-                    (λ n j l. more-part n j (omega arith)) inside outside (upTo (8 * (i / 8) + 8) bytes) (up-before (8 * (i / 8) + 8) bytes) (up-past (8 * (i / 8) + 8) bytes) j p hj hp
+                (λ n j l. more-part n j (omega arith)) inside outside (upTo (8 * (i / 8) + 8) bytes) (up-before (8 * (i / 8) + 8) bytes) (up-past (8 * (i / 8) + 8) bytes) j p hj hp
                 ∙ ap (λ x. bitOf (upTo x bytes p) j) m;
             later = later ∙ T .later;
           }

@@ -100,7 +100,11 @@ pub fn back<B: Block>(table: &[B], buffer: &mut [u8]) -> Result<(), Refusal>
 }
 
 // Transposes the bytes and fills the buffer from the table: the bytes come back.
-pub fn transpose_and_back<B: Block>(bytes: &[u8], table: &mut [B], buffer: &mut [u8]) -> Result<(), Refusal>
+pub fn transpose_and_back<B: Block>(
+    bytes: &[u8],
+    table: &mut [B],
+    buffer: &mut [u8],
+) -> Result<(), Refusal>
     ensures bytes { λ r. ⌜ RoundTrip (length (now (table .entry))) (answered places) (now (bytes .entry)) (now (buffer .entry)) (now (buffer .exit)) r ⌝ }
     ensures table { λ r. ⌜ Keeps row places (now (bytes .entry)) (now (table .entry)) (now (table .exit)) r ⌝ }
 {

@@ -11,7 +11,7 @@ use Rattle.flash.proofs.listing.list_block.Given as given
 abbrev pub Inv-loop-p : given.InvT-loop-p
 Inv-loop-p g l =
     Listed (bit (g .B·Block .row (l .marks))) (bit (g .B·Block .row (l .feeds))) (l .n) (l .base) (l .entry .line) (l .entry .ends) (l .entry .count)
-        (l .line) (l .passed) (l .at) (l .ends) (l .count)
+    (l .line) (l .passed) (l .at) (l .ends) (l .count)
 
 abbrev pub μ-loop-p : given.MeasureT-loop-p
 μ-loop-p g l = l .n - l .at

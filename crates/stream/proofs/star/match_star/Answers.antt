@@ -11,7 +11,7 @@ returns g c =
     let row = g .B·Block .row in
     let wide = g .B·Block·met .wide in
     let f = star-formula w (row (c .args .marks)) (row (c .args .class)) _ _ _ _ (c .args .carry) _ (wide (c .add-sum .result .0))
-        (c .and .ensures) (c .add-sum .ensures) (c .xor .ensures) (c .or .ensures) in
+    (c .and .ensures) (c .add-sum .ensures) (c .xor .ensures) (c .or .ensures) in
     record {
       formula = f;
       meaning =

@@ -1,0 +1,5 @@
+mod Changes
+mod Lists
+mod Merged
+mod Ones
+mod Rows
