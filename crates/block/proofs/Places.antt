@@ -59,15 +59,6 @@ pub place-past : (w n i : ℕ) → n < 2 ^ w → w ≤ i → place n i ≡ 0
 place-past w n i h l =
     let e : 0 * 2 ^ w + n ≡ n = omega arith in ap (λ m. place m i) (sym e) ∙ place-high w i 0 n h l ∙ zero-place (i - w)
 
-pub same-places : (w a b : ℕ) → a < 2 ^ w → b < 2 ^ w → ((i : ℕ) → i < w → place a i ≡ place b i) → a ≡ b
-same-places zero a b ha hb h = omega arith
-same-places (suc w) a b ha hb h =
-    let twice : 2 ^ suc w ≡ 2 ^ w * 2 = pow-suc 2 w in
-    let low : a % 2 ≡ b % 2 = sym (place-zero a) ∙ h 0 (omega arith) ∙ place-zero b in
-    let rest : a / 2 ≡ b / 2 =
-    same-places w (a / 2) (b / 2) (omega arith) (omega arith) (λ i l. sym (place-suc a i) ∙ h (suc i) (omega arith) ∙ place-suc b i) in
-    omega arith
-
 pub place-ones : (w i : ℕ) → i < w → place (2 ^ w - 1) i ≡ 1
 place-ones zero i h = absurd (omega arith)
 place-ones (suc w) zero h =

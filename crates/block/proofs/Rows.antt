@@ -50,9 +50,6 @@ tab-is row w f long h = subst (λ n. row ≡ tab n f) long (go row f (λ i l. h 
     go [] f h = refl
     go (b ∷ row) f h = λ j. h 0 (omega arith) j ∷ go row (λ i. f (suc i)) (λ i l. h (suc i) (omega arith)) j
 
-pub same-bits : (a b : List Bool) (w : ℕ) → length a ≡ w → length b ≡ w → ((i : ℕ) → i < w → bit a i ≡ bit b i) → a ≡ b
-same-bits a b w la lb h = tab-is a w (bit b) la h ∙ sym (tab-is b w (bit b) lb (λ i l. refl))
-
 -- ---- one place on
 
 pub enters-ext : (enter : Bool) (f g : ℕ → Bool) (i : ℕ) → ((j : ℕ) → j < i → f j ≡ g j) → enters enter f i ≡ enters enter g i

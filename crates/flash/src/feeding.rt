@@ -6,7 +6,7 @@ ghost use Prim.Native.Nat.{ℕ, _+_, _<_, _≤_};
 ghost use lib.ListN.{length};
 ghost use Rattle.std.specs.Vec.{listOf};
 ghost use Rattle.block.specs.Calls.{answered};
-ghost use Rattle.flash.specs.Flashes.{between};
+ghost use Rattle.flash.specs.Flashes.{longest, between};
 ghost use Rattle.flash.specs.Feeding.{Tells, Agrees, ReadsBlock, Feeds, Lists};
 use crate::lines::Line;
 use crate::listing::list_block;
@@ -41,7 +41,7 @@ fn agree(
     spare: usize,
     room: usize,
 ) -> Result<(), Refusal>
-    requires within { ⌜ position ≤ 1000000000 ⌝ }
+    requires within { ⌜ position ≤ longest ⌝ }
     requires spare { ⌜ spare ≤ 1 ⌝ }
     ensures { λ r. ⌜ Agrees blocks position bytes spare room r ⌝ }
 {
@@ -68,7 +68,7 @@ fn read_block<B: Block>(
     requires eight { ⌜ 8 ≤ length (now table) ⌝ }
     requires seen { ⌜ length (now bytes) ≤ answered places ⌝ }
     requires whole { ⌜ (length (now bytes) < answered places) ⊎ (length (now bytes) ≡ places) ⌝ }
-    requires far { ⌜ reader .position + length (now bytes) ≤ 1000000000 ⌝ }
+    requires far { ⌜ reader .position + length (now bytes) ≤ longest ⌝ }
     requires room { ⌜ count + length (now bytes) ≤ length (now ends) ⌝ }
     ensures { λ r. ⌜ ReadsBlock reader (now (bytes .entry)) (now (ends .entry)) (now (ends .exit)) count r ⌝ }
 {

@@ -4,22 +4,22 @@ ghost use mathlib.Core.List.{List};
 ghost use Prim.Native.Nat.{ℕ, _+_, _≤_, _<_};
 ghost use Rattle.block.specs.Rows.{bit};
 ghost use Rattle.block.specs.Calls.{answered};
-ghost use Rattle.flash.specs.Flashes.{lineAt, columnAt};
+ghost use Rattle.flash.specs.Flashes.{longest};
 ghost use Rattle.flash.specs.Lines.{Feeds-at, Counted};
 use block::Block;
 
 // A line, counted from 1, and the position where it starts.
 #[derive(Clone, Copy)]
-pub struct Line {
+pub(crate) struct Line {
     pub number: usize,
     pub start: usize,
 }
 
 // The line of place `to`, from that of place `from`: one more for each line feed between. Place 0 stands at `base`.
-pub fn pass<B: Block>(line: Line, feeds: B, base: usize, from: usize, to: usize) -> Line
+pub(crate) fn pass<B: Block>(line: Line, feeds: B, base: usize, from: usize, to: usize) -> Line
     requires order { ⌜ from ≤ to ⌝ }
     requires seen { ⌜ to ≤ answered places ⌝ }
-    requires far { ⌜ base + to ≤ 1000000000 ⌝ }
+    requires far { ⌜ base + to ≤ longest ⌝ }
     requires number { ⌜ line .number ≤ base + from + 1 ⌝ }
     requires start { ⌜ line .start ≤ base + from ⌝ }
     ensures number { λ r. ⌜ r .number ≤ base + to + 1 ⌝ }

@@ -5,7 +5,7 @@ ghost use Prim.Native.Nat.{ℕ, _+_, _<_, _≤_};
 ghost use lib.ListN.{length, take, drop};
 ghost use Rattle.block.specs.Rows.{bit};
 ghost use Rattle.block.specs.Calls.{answered};
-ghost use Rattle.flash.specs.Flashes.{complete, between};
+ghost use Rattle.flash.specs.Flashes.{longest, complete, between};
 ghost use Rattle.flash.specs.Lines.{Feeds-at, Counted};
 use crate::lines::Line;
 use crate::lines::pass;
@@ -14,7 +14,7 @@ use refusal::End;
 
 // Writes the ends at the first `n` places to the table from `count` on. Place 0 stands at `base`, in `line`. Answers the
 // line of place `n` and the count of ends that the table then holds.
-pub fn list_block<B: Block>(
+pub(crate) fn list_block<B: Block>(
     marks: B,
     feeds: B,
     n: usize,
@@ -24,7 +24,7 @@ pub fn list_block<B: Block>(
     count: usize,
 ) -> (Line, usize)
     requires seen { ⌜ n ≤ answered places ⌝ }
-    requires far { ⌜ base + n ≤ 1000000000 ⌝ }
+    requires far { ⌜ base + n ≤ longest ⌝ }
     requires room { ⌜ count + n ≤ length (now ends) ⌝ }
     requires number { ⌜ line .number ≤ base + 1 ⌝ }
     requires start { ⌜ line .start ≤ base ⌝ }

@@ -19,7 +19,7 @@ pub const LIT: u8 = b'#';
 pub const LINE_FEED: u8 = b'\n';
 
 #[derive(Clone, Copy)]
-pub struct Marks<B> {
+pub(crate) struct Marks<B> {
     // Where a run is complete.
     pub complete: B,
     // Where a turn is closed.
@@ -44,7 +44,7 @@ fn reaches<B: Block>(reached: B, fallen: bool, n: usize) -> bool
 
 // The marks of `bytes`, with the carry `lit` from the block before. A run reaches from each lit sample, and from the carry,
 // to the place behind its last lit sample, which is no lit sample itself.
-pub fn mark_block<B: Block>(lit: bool, bytes: &[u8], table: &mut [B]) -> Result<Marks<B>, Refusal>
+pub(crate) fn mark_block<B: Block>(lit: bool, bytes: &[u8], table: &mut [B]) -> Result<Marks<B>, Refusal>
     requires eight { ⌜ 8 ≤ length (now table) ⌝ }
     requires seen { ⌜ length (now bytes) ≤ answered places ⌝ }
     requires whole { ⌜ (length (now bytes) < answered places) ⊎ (length (now bytes) ≡ places) ⌝ }

@@ -1,5 +1,6 @@
 // What is kept of a recording between its pieces.
 ghost use Prim.Native.Nat.{_+_, _≤_};
+ghost use Rattle.flash.specs.Flashes.{longest};
 
 #[derive(Clone, Copy, PartialEq, Eq, Debug)]
 pub struct Flashes {
@@ -11,7 +12,7 @@ pub struct Flashes {
     pub(crate) line: usize,
     // Where that line starts.
     pub(crate) start: usize,
-    ghost within: { position ≤ 1000000000 },
+    ghost within: { position ≤ longest },
     ghost lines: { line ≤ position + 1 },
     ghost starts: { start ≤ position },
 }

@@ -26,9 +26,6 @@ bit-zero i = ap isOne (zero-place i)
 -- ---- one byte more above s others
 
 module _ (acc b s : ℕ) (small : acc < 2 ^ (8 * s)) (byte : b < 2 ^ 8) (room : s < 8) where
-  pub packed : ℕ
-  packed = acc + (b * 2 ^ (8 * s)) % 2 ^ 64
-
   pub packed-is : acc + (b * 2 ^ (8 * s)) % 2 ^ 64 ≡ b * 2 ^ (8 * s) + acc
   packed-is = ap (λ n. acc + n) (shl-exact 8 (8 * s) 64 byte (omega arith)) ∙ omega arith
 

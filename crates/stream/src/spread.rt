@@ -13,7 +13,7 @@ fn swap(x: u64, step: u32, mask: u64) -> u64
     x ^ moved ^ (moved << step)
 }
 
-pub fn spread(x: u64) -> u64
+pub(crate) fn spread(x: u64) -> u64
     ensures { λ r. ⌜ ((j n : ℕ) → j < 8 → n < 8 → bitOf r (8 * j + n) ≡ bitOf x (8 * n + j)) ⌝ }
 {
     let pairs = swap(x, 7, 0x00aa_00aa_00aa_00aa);
