@@ -1,16 +1,16 @@
 -- Groups and first ones of two rows of v bits behind one another, below the answered width. Assumes nothing.
-use mathlib.Core.Path.{_≡_, refl, sym, ap, subst, _∙_}
+use mathlib.Core.Path.{_≡_, sym, ap, _∙_}
 use mathlib.Core.Bool.{Bool, false}
 use mathlib.Core.List.{List, _++_}
-use mathlib.Core.Logic.{_⊎_, inl, inr}
-use Prim.Native.Nat.{ℕ, _+_, _-_, _*_, _/_, _%_, _<_, _≤_, min}
+use mathlib.Core.Logic.{inl, inr}
+use Prim.Native.Nat.{ℕ, _+_, _-_, _*_, _<_, _≤_}
 use native.Mathlib.Omega.{arith}
 use native.Mathlib.Decide.{decLt}
 use lib.ListN.{length}
 use Rattle.std.specs.declared.option.Option.{Option}
 use Rattle.std.specs.declared.option.Option.the-variants.{Some, None}
-use Rattle.block.specs.Rows.{bit, bitOf}
-use Rattle.block.specs.Calls.{answered, Served, Past, Put, Read, First}
+use Rattle.block.specs.Rows.{bit}
+use Rattle.block.specs.Calls.{answered, Served, Put, Read, First}
 use Rattle.doubled.specs.Halves.{InLate, Place}
 use Rattle.doubled.proofs.Halves.{early, late, behind}
 

@@ -1,5 +1,5 @@
 -- Two rows of v bits behind one another: place by place, one place on, and as numbers. Assumes nothing.
-use mathlib.Core.Path.{_≡_, refl, sym, ap, ap₂, _∙_}
+use mathlib.Core.Path.{_≡_, sym, ap, ap₂, _∙_}
 use mathlib.Core.Bool.{Bool}
 use mathlib.Core.List.{List, _++_}
 use Prim.Native.Nat.{ℕ, zero, suc, _+_, _-_, _*_, _^_, _<_, _≤_}
@@ -9,7 +9,7 @@ use lib.ListN.{length}
 use lib.Pow.{pow-add}
 use Rattle.block.specs.Rows.{bit, tab, worth, value}
 use Rattle.block.specs.Calls.{enters, Advance, Add}
-use Rattle.block.proofs.Rows.{bit-tab, bit-at, length-tab, tab-is, enters-ext, enters-last, length-joined, bit-early, bit-late, value-ext, value-joined}
+use Rattle.block.proofs.Rows.{bit-at, length-tab, tab-is, enters-ext, enters-last, length-joined, bit-early, bit-late, value-ext, value-joined}
 
 -- the row a, of v bits, with c behind it
 module _ (v : ℕ) (a c : List Bool) (la : length a ≡ v) where
