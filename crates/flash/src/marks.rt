@@ -44,7 +44,11 @@ fn reaches<B: Block>(reached: B, fallen: bool, n: usize) -> bool
 
 // The marks of `bytes`, with the carry `lit` from the block before. A run reaches from each lit sample, and from the carry,
 // to the place behind its last lit sample, which is no lit sample itself.
-pub(crate) fn mark_block<B: Block>(lit: bool, bytes: &[u8], table: &mut [B]) -> Result<Marks<B>, Refusal>
+pub(crate) fn mark_block<B: Block>(
+    lit: bool,
+    bytes: &[u8],
+    table: &mut [B],
+) -> Result<Marks<B>, Refusal>
     requires eight { ⌜ 8 ≤ length (now table) ⌝ }
     requires seen { ⌜ length (now bytes) ≤ answered places ⌝ }
     requires whole { ⌜ (length (now bytes) < answered places) ⊎ (length (now bytes) ≡ places) ⌝ }
