@@ -1,0 +1,11 @@
+pub mod Bits
+pub mod Inside
+pub mod Members
+pub mod Listing
+pub mod Ordered
+pub mod Existing
+pub mod Worked
+pub mod Tapes
+pub mod InLine
+pub mod Positions
+pub mod Running

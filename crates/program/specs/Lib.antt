@@ -1,0 +1,6 @@
+pub mod Machine
+pub mod Numbered
+pub mod Compile
+pub mod Sizes
+pub mod Falls
+pub mod Matched

@@ -1,0 +1,12 @@
+pub mod Reaching
+pub mod Laws
+pub mod Pass
+pub mod MatchStar
+pub mod Rows
+pub mod Blocks
+pub mod Whole
+pub mod Passes
+pub mod Stretched
+pub mod Repeats
+pub mod Written
+pub mod Shown
