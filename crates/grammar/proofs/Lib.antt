@@ -1,0 +1,11 @@
+pub mod Short
+pub mod Wants
+pub mod Runs
+pub mod Past
+pub mod Sound
+pub mod Refusals
+pub mod Laws
+pub mod Going
+pub mod Unique
+pub mod Decided
+pub mod Example

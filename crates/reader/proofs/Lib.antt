@@ -1,0 +1,3 @@
+pub mod Exits
+pub mod Parts
+pub mod Outermost
