@@ -83,6 +83,7 @@ impl<'a> Lexer<'a> {
     pub fn new(text: &'a [u8]) -> Lexer<'a>
         ensures whole { λ r. ⌜ now (r .text) ≡ now (text .entry) ⌝ }
         ensures first { λ r. ⌜ r .place ≡ 0 ⌝ }
+        ensures start { λ r. ⌜ r .start ≡ 0 ⌝ }
     {
         Lexer {
             text,

@@ -54,17 +54,6 @@ counts-read {x} {y} {p} {q} {r} {m} {n} a same b =
       on = omega (arith, a .on, b .on);
     }
 
-pub items-none : {x : List ℕ} {p q s : ℕ} (t : Tree) → Lexes x p closing s q → length (rangesOf t) ≤ p → ItemsRead x p q t t []
-items-none t l h =
-    record {
-      nodes = refl;
-      bytes = refl;
-      ranges = sym (append-nil _);
-      reads = λ us r k. (closing ∷ us, (_, _, l, k), refl);
-      on = shut-on l;
-      room = omega (arith, h, shut-on l);
-    }
-
 pub items-more : {x y : List ℕ} {p q r : ℕ} (t u v : Tree) (kept : List Range) (a : ItemRead x p q t u) → y ≡ x → ItemsRead y q r u v kept → ItemsRead x p r t v (a .range ∷ kept)
 items-more {x} {y} {p} {q} {r} t u v kept a same b =
     record {
