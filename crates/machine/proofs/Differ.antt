@@ -13,13 +13,8 @@ use Rattle.block.specs.Rows.{bit}
 use Rattle.block.specs.Calls.{widest, differ, xorRow, First}
 use Rattle.block.proofs.Rows.{bit-at, tab-is}
 use Rattle.program.specs.Machine.{same}
+use Rattle.program.proofs.Falls.{same-refl}
 use Rattle.program.proofs.Puts.{same-is}
-
-same-refl : (x : List Bool) → same x x ≡ true
-unfolding same
-same-refl [] = refl
-same-refl (true ∷ x) = same-refl x
-same-refl (false ∷ x) = same-refl x
 
 differ-not : (a b : Bool) → differ a b ≡ false → a ≡ b
 differ-not true true e = refl

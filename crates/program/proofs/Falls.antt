@@ -51,7 +51,7 @@ vacant-put f r v s (suc count) l u = go (ℕ-discrete s r) (vacant-put f r v (su
         let c = ih (omega arith) (omega arith) in
         omega arith
 
-same-refl : (x : List Bool) → same x x ≡ true
+pub same-refl : (x : List Bool) → same x x ≡ true
 unfolding same
 same-refl [] = refl
 same-refl (true ∷ x) = same-refl x
