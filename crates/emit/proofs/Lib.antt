@@ -1,0 +1,5 @@
+pub mod Joining
+pub mod Shaped
+pub mod Walked
+pub mod Bounded
+pub mod Entire

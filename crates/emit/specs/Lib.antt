@@ -1,0 +1,4 @@
+pub mod Limit
+pub mod Coding
+pub mod Walking
+pub mod Whole
