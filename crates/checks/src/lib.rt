@@ -289,7 +289,9 @@ mod tests {
         let heap = rt.alloc();
         any_cut::<Word>(heap).note("word")?;
         any_cut::<RunList>(heap).note("run list")?;
-        any_cut::<Doubled<Doubled<Word>>>(heap).note("word doubled twice")
+        any_cut::<Doubled<Word>>(heap).note("word doubled")?;
+        any_cut::<Doubled<Doubled<Word>>>(heap).note("word doubled twice")?;
+        any_cut::<Doubled<RunList>>(heap).note("run list doubled")
     }
 
     #[test]
