@@ -2,6 +2,9 @@
 //
 // A block is a row of `places` bits, place 0 the earliest and place i worth 2^i. A kind is lawful exactly when it
 // implements this trait: its laws and the contract of each call are proved for all of its blocks.
+
+#![tactic(auto)]
+
 ghost use Rattle.std.specs.Prelude.{◌≡◌, ℕ, ◌%◌, ◌≤◌, Bool, List, length};
 ghost use Rattle.block.specs.Calls.{answered, none_row, all_row, and_row, or_row, xor_row, not_row, Advance, Add, Put, Read, First};
 ghost use Rattle.block.specs.Sums.{SumsAgree};

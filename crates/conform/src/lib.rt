@@ -3,6 +3,9 @@
 //
 // Answers are looked at through `read`, so a wrong `read` shows as a deviation of the call that is looked at first. Where
 // a kind is wider than the answered width, only the places below it are seen.
+
+#![tactic(auto)]
+
 ghost use Rattle.std.specs.Prelude.{◌≡◌, ℕ, ◌+◌, ◌*◌, ◌/◌, ◌%◌, ◌<◌, true, length, is_ok, slice_index};
 ghost use Rattle.block.specs.Rows.{bit, tab, bit_of, worth};
 ghost use Rattle.block.specs.Calls.{answered, Served, First};
@@ -51,7 +54,7 @@ pub enum Logic {
 
 // How many groups are served.
 fn groups<B: Block>() -> usize
-    ensures { result ≡ answered places / 8 }
+    ensures { result ≡ answered B.Block.places / 8 }
 {
     B::width() / 8
 }
@@ -84,7 +87,7 @@ fn byte_of(op: Logic, x: u8, y: u8) -> u8
 
 // Whether `answer` is what `op` makes of `a` and `b`.
 pub fn judge_logic<B: Block>(op: Logic, a: B, b: B, answer: B) -> Result<(), Deviation>
-    ensures { Judged (call_of op) (answered places) (bit (row answer)) (λ i. made op (bit (row a) i) (bit (row b) i)) result }
+    ensures { Judged (call_of op) (answered B.Block.places) (bit (B.Block.row answer)) (λ i. made op (bit (B.Block.row a) i) (bit (B.Block.row b) i)) result }
 {
     for k in 0..groups::<B>() {
         let want = byte_of(op, a.read(k), b.read(k));
@@ -114,7 +117,7 @@ pub fn judge_sum<B: Block>(
     enter: bool,
     answer: (B, bool),
 ) -> Result<(), Deviation>
-    ensures { SumJudged call places (row a) (row b) enter (row answer.0) answer.1 result }
+    ensures { SumJudged call B.Block.places (B.Block.row a) (B.Block.row b) enter (B.Block.row answer.0) answer.1 result }
 {
     let (total, out) = answer;
     let mut carry = enter;
@@ -137,14 +140,14 @@ pub fn judge_sum<B: Block>(
 
 // The group `g` of `before` with a byte at the group `k`.
 fn put_group<B: Block>(before: B, k: usize, byte: u8, g: usize) -> u8
-    ensures { Served places g → (j : ℕ) → j < 8 → bit_of result j ≡ written k byte (bit (row before)) (8 * g + j) }
+    ensures { Served B.Block.places g → (j : ℕ) → j < 8 → bit_of result j ≡ written k byte (bit (B.Block.row before)) (8 * g + j) }
 {
     if g == k { byte } else { before.read(g) }
 }
 
 // Whether `after` is `before` with a byte at the group `k`.
 pub fn judge_put<B: Block>(before: B, k: usize, byte: u8, after: B) -> Result<(), Deviation>
-    ensures { Judged Call.Put (answered places) (bit (row after)) (written k byte (bit (row before))) result }
+    ensures { Judged Call.Put (answered B.Block.places) (bit (B.Block.row after)) (written k byte (bit (B.Block.row before))) result }
 {
     for g in 0..groups::<B>() {
         let want = put_group(before, k, byte, g);
@@ -170,7 +173,7 @@ fn byte_at(bytes: &[u8], k: usize) -> u8
 
 // Whether `block` holds the bytes over and over.
 pub fn judge_row<B: Block>(bytes: &[u8], block: B) -> Result<(), Deviation>
-    ensures { Judged Call.Put (answered places) (bit (row block)) (repeated bytes.now) result }
+    ensures { Judged Call.Put (answered B.Block.places) (bit (B.Block.row block)) (repeated bytes.now) result }
 {
     for k in 0..groups::<B>() {
         let want = byte_at(bytes, k);
@@ -186,7 +189,7 @@ pub fn judge_row<B: Block>(bytes: &[u8], block: B) -> Result<(), Deviation>
 
 // What the kind's own call answers.
 fn answer_of<B: Block>(op: Logic, a: B, b: B) -> B
-    ensures { row result ≡ tab places (λ i. made op (bit (row a) i) (bit (row b) i)) }
+    ensures { B.Block.row result ≡ tab B.Block.places (λ i. made op (bit (B.Block.row a) i) (bit (B.Block.row b) i)) }
 {
     match op {
         Logic::Nothing => B::none(),
@@ -232,7 +235,7 @@ fn check_group<B: Block>(block: B, k: usize, byte: u8) -> Result<(), Deviation>
 
 // A block with the bytes over and over, written over another.
 fn fill<B: Block>(base: B, bytes: &[u8]) -> B
-    ensures { Agree (answered places) (bit (row result)) (repeated bytes.now) }
+    ensures { Agree (answered B.Block.places) (bit (B.Block.row result)) (repeated bytes.now) }
 {
     let mut block = base;
     for k in 0..groups::<B>() {
@@ -249,20 +252,20 @@ fn check_fill<B: Block>(base: B, bytes: &[u8]) -> Result<(), Deviation>
 
 // Whether the place `i` holds a one.
 fn holds<B: Block>(block: B, i: usize) -> bool
-    ensures { i < answered places → result ≡ bit (row block) i }
+    ensures { i < answered B.Block.places → result ≡ bit (B.Block.row block) i }
 {
     (block.read(i / 8) >> (i % 8)) % 2 == 1
 }
 
 // The first one from `i` on, where `later` is the first from the next place on.
 fn first_from<B: Block>(block: B, i: usize, later: Option<usize>) -> Option<usize>
-    ensures { i < answered places → First places (row block) (i + 1) later → First places (row block) i result }
+    ensures { i < answered B.Block.places → First B.Block.places (B.Block.row block) (i + 1) later → First B.Block.places (B.Block.row block) i result }
 {
     if holds(block, i) { Some(i) } else { later }
 }
 
 fn check_first<B: Block>(block: B, i: usize, want: Option<usize>) -> Result<(), Deviation>
-    ensures { First places (row block) i want → is_ok result ≡ true }
+    ensures { First B.Block.places (B.Block.row block) i want → is_ok result ≡ true }
 {
     let same = match (block.first(i), want) {
         (Some(p), Some(q)) => p == q,

@@ -2,6 +2,9 @@
 //
 // It is lawful again, so it can be doubled again without limit. Where its width passes 65,528 the answered width stays
 // there, and put, read and first follow it.
+
+#![tactic(auto)]
+
 ghost use Rattle.std.specs.Prelude.{◌+◌, ◌++◌};
 ghost use Rattle.block.specs.Calls.{Advance, Add};
 ghost use Rattle.doubled.specs.Halves.{Joined, Lies, Place};
@@ -29,15 +32,15 @@ enum Group {
 
 // Two blocks behind one another.
 fn join<B: Block>(early: B, late: B) -> Doubled<B>
-    ensures { Joined places (row early) (row late) (row result.early ++ row result.late) }
+    ensures { Joined B.Block.places (B.Block.row early) (B.Block.row late) (B.Block.row result.early ++ B.Block.row result.late) }
 {
     Doubled { early, late }
 }
 
 // Each half one place on, with the bit that falls out of it; the earlier's enters the later.
 fn advance_halves<B: Block>(block: Doubled<B>, enter: bool) -> ((B, bool), (B, bool))
-    ensures early { Advance places (row block.early) enter (row result.0.0) result.0.1 }
-    ensures late { Advance places (row block.late) result.0.1 (row result.1.0) result.1.1 }
+    ensures early { Advance B.Block.places (B.Block.row block.early) enter (B.Block.row result.0.0) result.0.1 }
+    ensures late { Advance B.Block.places (B.Block.row block.late) result.0.1 (B.Block.row result.1.0) result.1.1 }
 {
     let early = block.early.advance(enter);
     let late = block.late.advance(early.1);
@@ -46,8 +49,8 @@ fn advance_halves<B: Block>(block: Doubled<B>, enter: bool) -> ((B, bool), (B, b
 
 // The sum of each half, with the bit that falls out of it; the earlier's enters the later.
 fn add_halves<B: Block>(one: Doubled<B>, other: Doubled<B>, enter: bool) -> ((B, bool), (B, bool))
-    ensures early { Add places (row one.early) (row other.early) enter (row result.0.0) result.0.1 }
-    ensures late { Add places (row one.late) (row other.late) result.0.1 (row result.1.0) result.1.1 }
+    ensures early { Add B.Block.places (B.Block.row one.early) (B.Block.row other.early) enter (B.Block.row result.0.0) result.0.1 }
+    ensures late { Add B.Block.places (B.Block.row one.late) (B.Block.row other.late) result.0.1 (B.Block.row result.1.0) result.1.1 }
 {
     let early = one.early.add(other.early, enter);
     let late = one.late.add(other.late, early.1);
@@ -56,7 +59,7 @@ fn add_halves<B: Block>(one: Doubled<B>, other: Doubled<B>, enter: bool) -> ((B,
 
 // The second test is the whole's own: a group that the later half serves may lie beyond the whole's answered width.
 fn find<B: Block>(k: usize) -> Group
-    ensures { Lies places k result }
+    ensures { Lies B.Block.places k result }
 {
     let half = B::width() / 8;
     if k < half {
@@ -70,7 +73,7 @@ fn find<B: Block>(k: usize) -> Group
 
 // The place `p` of the later half as a place of the whole, or none where that is beyond the answered width.
 fn behind<B: Block>(p: usize) -> Option<usize>
-    ensures { Place places p result }
+    ensures { Place B.Block.places p result }
 {
     let q = B::width().saturating_add(p);
     if q < Doubled::<B>::width() {

@@ -1,5 +1,8 @@
 // Runs the conformance check on the kinds that come with the reader, and prints a line for each: its name, the width
 // that it answers, and what the check found.
+
+#![tactic(auto)]
+
 use block::Block;
 use conform::check_kind;
 use doubled::Doubled;

@@ -1,12 +1,16 @@
 // The run list: a block of 64 places, of which only the changes are kept, the places where a bit differs from the one
 // before. Every call goes from change to change.
+
+#![tactic(auto)]
+
 ghost use Rattle.std.specs.Prelude.{◌≡◌, ℕ, ◌+◌, ◌-◌, ◌<◌, ◌≤◌, true, false, not, ◌&&◌, ◌||◌, length, take, slice_index_or};
 ghost use Rattle.block.specs.Rows.{tab, bit_of};
 ghost use Rattle.block.specs.Calls.{none_row};
 ghost use Rattle.block.specs.Sums.{over};
 ghost use Rattle.runlist.specs.Changes.{odd, rises, shows, Agree, KeepsChanges};
 ghost use Rattle.runlist.specs.Merged.{gives};
-ghost use Rattle.std.proofs.Common.{rules, arith};
+ghost use Rattle.block.proofs.Rows.{length-tab};
+ghost use Rattle.std.proofs.Common.{rules};
 
 use block::Block;
 
@@ -189,7 +193,7 @@ impl Builder {
         ensures { result.place ≡ 0 }
     {
         Builder {
-            list: <RunList as Block>::none(),
+            list: RunList::none(),
             place: 0,
         }
     }
@@ -307,11 +311,11 @@ impl Block for RunList {
 
     ghost row = { λ r. tab 64 (shows r.at r.count) };
 
-    ghost whole_bytes = { first_of (Prim.search rules, Prim.grind (arith, Self.row.coded.inj)) };
+    ghost whole_bytes = { Prim.search rules };
 
-    ghost some = { first_of (Prim.search rules, Prim.grind (arith, Self.row.coded.inj)) };
+    ghost some = { Prim.search rules };
 
-    ghost wide = { first_of (Prim.search rules, Prim.grind (arith, Self.row.coded.inj)) };
+    ghost wide = { λ r. length-tab 64 (shows r.at r.count) };
 
     fn width() -> usize {
         usize::from(PLACES)
@@ -350,7 +354,7 @@ impl Block for RunList {
 
     // Merged with a list that has no change.
     fn not(self) -> RunList {
-        merge(Op::Not, self, <RunList as Block>::none(), false).0
+        merge(Op::Not, self, RunList::none(), false).0
     }
 
     // Each change goes one place on, behind the entering bit; the one that would stand at 64 is left out.
@@ -410,7 +414,7 @@ mod tests {
 
     // Ones at the even places.
     fn evens() -> RunList {
-        let mut block = <RunList as Block>::none();
+        let mut block = RunList::none();
         for k in 0..GROUPS {
             block = block.put(k, 0x55);
         }
@@ -419,8 +423,8 @@ mod tests {
 
     #[test]
     fn only_changes_are_kept(rt: HostRuntime) {
-        assert_eq!(rt; <RunList as Block>::none().count, 0);
-        assert_eq!(rt; <RunList as Block>::all().count, 1);
+        assert_eq!(rt; RunList::none().count, 0);
+        assert_eq!(rt; RunList::all().count, 1);
         assert_eq!(rt; evens().count, 64);
         assert_eq!(rt; evens().or(evens().not()).count, 1);
         assert_eq!(rt; evens().xor(evens()).count, 0);
@@ -428,7 +432,7 @@ mod tests {
 
     #[test]
     fn a_carry_goes_through_and_falls_out(rt: HostRuntime) {
-        let (sum, out) = <RunList as Block>::all().add(<RunList as Block>::none(), true);
+        let (sum, out) = RunList::all().add(RunList::none(), true);
         assert_eq!(rt; sum.count, 0);
         assert!(rt; out);
         let (odds, out) = evens().add(evens(), false);
@@ -441,7 +445,7 @@ mod tests {
 
     #[test]
     fn groups_and_ones_past_the_end(rt: HostRuntime) {
-        let block = <RunList as Block>::none().put(2, 0x18);
+        let block = RunList::none().put(2, 0x18);
         assert_eq!(rt; block.first(0), Some(19));
         assert_eq!(rt; block.first(21), None);
         assert_eq!(rt; block.first(64), None);

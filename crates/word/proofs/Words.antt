@@ -1,5 +1,5 @@
 -- A word with one byte put in another's place, and a word without the places below i. Assumes nothing.
-use Rattle.std.proofs.Common.{◌≡◌, ℕ, suc, ◌+◌, ◌-◌, ◌*◌, ◌/◌, ◌%◌, ◌^◌, ◌<◌, ◌≤◌, Bool, true, false, Some, None, sym, ap, ◌∙◌, subst, mod-lt, add-mul, lt_of_not-le, div-add-mod', arith, pow_pos, pow-add, shl_exact, shr_lt}
+use Rattle.std.proofs.Common.{◌≡◌, ℕ, suc, ◌+◌, ◌-◌, ◌*◌, ◌/◌, ◌%◌, ◌^◌, ◌<◌, ◌≤◌, false, Some, None, sym, ap, ◌∙◌, subst, mod-lt, add-mul, lt_of_not-le, div-add-mod', arith, pow_pos, pow-add, shl_exact, shr_lt}
 use lib.Arith.{digits_lt, digits_mod}
 use lib.Bits.{bit_and, and_high}
 use lib.Count.{count_trailing_zeros}

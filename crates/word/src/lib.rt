@@ -1,8 +1,11 @@
 // The machine word: a block of 64 places in one number.
+
+#![tactic(auto)]
+
 ghost use Rattle.std.specs.Prelude.{◌^◌, ◌<◌};
 ghost use Rattle.block.specs.Rows.{row_of};
 ghost use Rattle.block.proofs.Numbers.{length_row};
-ghost use Rattle.std.proofs.Common.{rules, arith};
+ghost use Rattle.std.proofs.Common.{rules};
 
 use block::Block;
 
@@ -21,9 +24,9 @@ impl Block for Word {
 
     ghost row = { λ b. row_of 64 b.bits };
 
-    ghost whole_bytes = { first_of (Prim.search rules, Prim.grind (arith, Self.row.coded.inj)) };
+    ghost whole_bytes = { Prim.search rules };
 
-    ghost some = { first_of (Prim.search rules, Prim.grind (arith, Self.row.coded.inj)) };
+    ghost some = { Prim.search rules };
 
     ghost wide = { λ b. length_row 64 b.bits };
 

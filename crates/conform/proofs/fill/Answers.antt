@@ -9,5 +9,5 @@ pub loop-k-preserved : goal.loop-k-preserved
 loop-k-preserved g c =
     let k = c.loop-k.k in
     let bytes = c.args.bytes.now in
-    filled_more g.B.Block.places _ k c.byte-at.result _ (repeated bytes) (omega arith) c.put-block.ensures c.loop-k.invariant
-    (λ j h. ap (λ n. bit_of n j) c.byte-at.ensures ∙ repeated_here k j h bytes)
+    filled_more g.B.Block.places _ k c.byte_at.result _ (repeated bytes) (omega arith) c.put-block.ensures c.loop-k.invariant
+    (λ j h. ap (λ n. bit_of n j) c.byte_at.ensures ∙ repeated_here k j h bytes)

@@ -13,7 +13,7 @@ loop-g-preserved g c =
     let served : Served v k = omega arith in
     let want : ℕ → _ = written c.args.k c.args.byte (bit (r c.args.before)) in
     agree_more k _ want c.loop-g.invariant
-    (group_same v (r c.args.after) k c.put-group-want.result _ want served c.read.ensures (c.put-group-want.ensures served) c.if-read-want.false)
+    (group_same v (r c.args.after) k c.put_group-want.result _ want served c.read.ensures (c.put_group-want.ensures served) c.if-read-want.false)
 
 pub returns-then-read-want : goal.returns-then-read-want
 returns-then-read-want g c =
@@ -27,6 +27,6 @@ returns-then-read-want g c =
         omega arith,
         c.loop-g.invariant,
         λ agree. c.if-read-want.true
-            (group_found v (r c.args.after) k c.put-group-want.result _ want served c.read.ensures (c.put-group-want.ensures served) (omega arith) (omega arith) agree),
+            (group_found v (r c.args.after) k c.put_group-want.result _ want served c.read.ensures (c.put_group-want.ensures served) (omega arith) (omega arith) agree),
       ),
     )

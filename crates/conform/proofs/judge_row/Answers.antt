@@ -12,8 +12,8 @@ loop-k-preserved g c =
     let bytes = c.args.bytes.now in
     let served : Served v k = omega arith in
     agree_more k _ (repeated bytes) c.loop-k.invariant
-    (group_same v (g.B.Block.row c.args.block) k c.byte-at-want.result _ (repeated bytes) served c.read.ensures
-    (λ j h. ap (λ n. bit_of n j) c.byte-at-want.ensures ∙ repeated_here k j h bytes) c.if-read-want.false)
+    (group_same v (g.B.Block.row c.args.block) k c.byte_at-want.result _ (repeated bytes) served c.read.ensures
+    (λ j h. ap (λ n. bit_of n j) c.byte_at-want.ensures ∙ repeated_here k j h bytes) c.if-read-want.false)
 
 pub returns-then-read-want : goal.returns-then-read-want
 returns-then-read-want g c =
@@ -26,7 +26,7 @@ returns-then-read-want g c =
         omega arith,
         c.loop-k.invariant,
         λ agree. c.if-read-want.true
-            (group_found v (g.B.Block.row c.args.block) k c.byte-at-want.result _ (repeated bytes) served c.read.ensures
-            (λ j h. ap (λ n. bit_of n j) c.byte-at-want.ensures ∙ repeated_here k j h bytes) (omega arith) (omega arith) agree),
+            (group_found v (g.B.Block.row c.args.block) k c.byte_at-want.result _ (repeated bytes) served c.read.ensures
+            (λ j h. ap (λ n. bit_of n j) c.byte_at-want.ensures ∙ repeated_here k j h bytes) (omega arith) (omega arith) agree),
       ),
     )

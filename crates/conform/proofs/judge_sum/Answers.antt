@@ -18,12 +18,12 @@ loop-k-preserved g c =
     let x = bit (r c.args.a) in
     let y = bit (r c.args.b) in
     let enter = c.args.enter in
-    let s = c.add-bytes-want.result in
+    let s = c.add_bytes-want.result in
     let served : Served v k = omega arith in
     let xs = c.read.ensures.inside served in
     let ys = c.read-in-loop-k.ensures.inside served in
     let into = c.loop-k.invariant.1 in
-    let adds = c.add-bytes-want.ensures in
+    let adds = c.add_bytes-want.ensures in
     let here = sum_here x y enter k _ _ s.0 _ s.1 (omega arith) (omega arith) (omega arith) xs ys into adds in (
       agree_more k _ (sum x y enter) c.loop-k.invariant.0
           (group_same v (r c.args.answer.0) k s.0 _ (sum x y enter) served c.read-in-loop-k-2.ensures here c.if-read-want.false),
@@ -38,11 +38,11 @@ returns-then-read-want g c =
     let x = bit (r c.args.a) in
     let y = bit (r c.args.b) in
     let enter = c.args.enter in
-    let s = c.add-bytes-want.result in
+    let s = c.add_bytes-want.result in
     let served : Served v k = omega arith in
     let xs = c.read.ensures.inside served in
     let ys = c.read-in-loop-k.ensures.inside served in
-    let here = sum_here x y enter k _ _ s.0 _ s.1 (omega arith) (omega arith) (omega arith) xs ys c.loop-k.invariant.1 c.add-bytes-want.ensures in (
+    let here = sum_here x y enter k _ _ s.0 _ s.1 (omega arith) (omega arith) (omega arith) xs ys c.loop-k.invariant.1 c.add_bytes-want.ensures in (
       refl,
       inl (
         omega arith,

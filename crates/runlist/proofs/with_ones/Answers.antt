@@ -1,8 +1,8 @@
 use Rattle.runlist.proofs.Ones.{no_wrap, ones_within, ones_below, ones_above}
 use Rattle.runlist.proofs.with_ones.Goals as goal
 
-pub overflow-sub-ones : goal.overflow-sub-ones
-overflow-sub-ones c = no_wrap c.args.byte c.args.low c.args.high c.requires.0 c.requires.1
+pub overflow_sub-ones : goal.overflow_sub-ones
+overflow_sub-ones c = no_wrap c.args.byte c.args.low c.args.high c.requires.0 c.requires.1
 
 pub returns : goal.returns
 returns c =

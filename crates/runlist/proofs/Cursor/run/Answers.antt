@@ -2,7 +2,7 @@ use Rattle.std.proofs.Common.{◌∙◌, arith}
 use Rattle.runlist.proofs.Changes.{Ran, run_hit, run_stay}
 use Rattle.runlist.proofs.Lists.{kept, kept-length}
 use Rattle.runlist.proofs.Cursor.run.Goals as goal
-use Rattle.runlist.proofs.Cursor.run.Goals.{Joined-change-self, at·ghost-result, then-change-self, else-change-self}
+use Rattle.runlist.proofs.Cursor.run.Goals.{Joined-change-self, then-change-self, else-change-self}
 
 ran : (c : Joined-change-self) → Ran 64 (kept c.args.self.list) c.args.self.list.rising c.if-change-self.passed c.args.self.place
 ran c =
@@ -13,9 +13,15 @@ ran c =
       | else-change-self x ↦ run_stay 64 (kept w.list) w.list.rising w.passed _ w.place (omega arith) c.requires w.before w.behind (λ e. x.if-change-self.false (c.change.ensures ∙ e)) x.passed-is
     ]
 
-pub invariant-of-result : goal.invariant-of-result
-invariant-of-result c =
+pub invariant_of-result : goal.invariant_of-result
+invariant_of-result c =
     let w = c.args.self in
     let many = kept-length w.list in
-    let r = ran (at·ghost-result c).Joined-change-self in
-    (omega (arith, r.within), (omega (arith, r.some, c.change-2.ensures), (omega (arith, r.ends, c.change-2.ensures), (r.before, (c.change-2.ensures, tt)))))
+    let r = ran (goal.at.invariant_of-result c).Joined-change-self in
+    record {
+      within = omega (arith, r.within);
+      some = omega (arith, r.some, c.change-2.ensures);
+      ends = omega (arith, r.ends, c.change-2.ensures);
+      before = r.before;
+      behind = c.change-2.ensures;
+    }

@@ -9,7 +9,7 @@ returns c =
     let r = c.args.self in
     let l = kept r.list in
     let many = kept-length r.list in
-    let odd_is = sym c.is-odd.ensures in
+    let odd_is = sym c.is_odd.ensures in
     record {
       within = λ j h u. run_bit 64 l r.list.rising r.passed r.place j (omega arith) r.before h (omega arith) ∙ odd_is;
       behind = λ h. ap (shown l) r.behind ∙ run_turn 64 l r.list.rising r.passed (omega arith) ∙ ap not odd_is;

@@ -18,6 +18,6 @@ returns c =
           let t : c.to.result.place + j ≡ j = omega arith in
           ap (bits c.copy.new.self.list) s ∙ c.copy.ensures.here j (omega arith) ∙ (λ z. bits (c.to.ensures.list z) (t z)));
       fallen =
-          c.is-odd.ensures ∙ ap odd (sym (kept-length a))
+          c.is_odd.ensures ∙ ap odd (sym (kept-length a))
           ∙ sym (bit_tab 64 (bits a) 63 (omega arith) ∙ last_bit 64 63 (kept a) a.rising (omega arith));
     }

@@ -11,14 +11,14 @@ returns c =
     row_put 64 k c.args.byte (bits c.args.self) (bits new) (omega arith)
     (λ j h.
     let s : 8 * k + j ≡ c.copy.new.self.place + j = omega arith in
-    c.copy-2.ensures.before (8 * k + j) (omega arith) ∙ ap (bits c.push-byte.new.self.list) s ∙ c.push-byte.ensures.here j h)
+    c.copy-2.ensures.before (8 * k + j) (omega arith) ∙ ap (bits c.push_byte.new.self.list) s ∙ c.push_byte.ensures.here j h)
     (λ i h.
     let s : i ≡ c.new-builder.result.place + i = omega arith in
     let t : c.to.result.place + i ≡ i = omega arith in
-    c.copy-2.ensures.before i (omega arith) ∙ c.push-byte.ensures.before i (omega arith) ∙ ap (bits early) s ∙ c.copy.ensures.here i (omega arith)
+    c.copy-2.ensures.before i (omega arith) ∙ c.push_byte.ensures.before i (omega arith) ∙ ap (bits early) s ∙ c.copy.ensures.here i (omega arith)
     ∙ (λ z. bits (c.to.ensures.list z) (t z)))
     (λ i h l.
     let j : ℕ = i - (8 * k + 8) in
-    let s : i ≡ c.push-byte.new.self.place + j = omega arith in
+    let s : i ≡ c.push_byte.new.self.place + j = omega arith in
     let t : c.to-2.result.place + j ≡ i = omega arith in
     ap (bits new) s ∙ c.copy-2.ensures.here j (omega arith) ∙ (λ z. bits (c.to-2.ensures.list z) (t z)))

@@ -4,4 +4,4 @@ use Rattle.runlist.proofs.Rows.{row_read}
 use Rattle.runlist.proofs.RunListBlock.read.Goals as goal
 
 pub returns : goal.returns
-returns c = row_read 64 c.args.k c.byte-at.result (bits c.args.self) (omega arith) c.byte-at.ensures
+returns c = row_read 64 c.args.k c.byte_at.result (bits c.args.self) (omega arith) c.byte_at.ensures
