@@ -1,5 +1,8 @@
 // Tests of the stream calls and of the flash library on the kinds that come with the reader. Expected values come from the
 // rules, or from a plain loop over the bytes.
+
+#![tactic(auto)]
+
 use block::Block;
 use flash::{Flashes, list_flashes};
 use refusal::{End, Refusal};
@@ -116,23 +119,24 @@ mod tests {
     }
 
     // Each kind is held to the plain places, so all of them find the same.
-    fn finds_lit<B: Block>(rt: &impl Abort, heap: Global) -> Result<(), Fail> {
+    fn finds_lit<B: Block>(rt: &impl Abort, heap: Global, kind: &str) -> Result<(), Fail> {
         let found = exercise::<B>(heap, SAMPLES, true)?;
-        assert!(rt; found.same);
+        assert!(rt; found.same, "{kind}");
         let mut lit = Vec::new(heap);
         for (i, byte) in SAMPLES.iter().enumerate() {
             if *byte == b'#' {
                 lit.push(i)?;
             }
         }
-        assert_eq!(rt; found.lit.as_slice(), lit.as_slice());
+        assert_eq!(rt; found.lit.as_slice(), lit.as_slice(), "{kind}");
         assert_eq!(rt;
             found.reached.as_slice(),
             [
                 0, 1, 2, 4, 5, 8, 9, 10, 11, 17, 18, 19, 20, 21, 23, 24, 25, 26, 27, 28, 29, 30,
                 31, 32, 33, 35, 36,
             ]
-            .as_slice()
+            .as_slice(),
+            "{kind}"
         );
         Ok(())
     }
@@ -140,11 +144,11 @@ mod tests {
     #[test]
     fn kinds_find_the_same_places(rt: HostRuntime) -> Result<(), Fail> {
         let heap = rt.alloc();
-        finds_lit::<Word>(&rt, heap).note("word")?;
-        finds_lit::<RunList>(&rt, heap).note("run list")?;
-        finds_lit::<Doubled<Word>>(&rt, heap).note("word doubled")?;
-        finds_lit::<Doubled<Doubled<Word>>>(&rt, heap).note("word doubled twice")?;
-        finds_lit::<Doubled<RunList>>(&rt, heap).note("run list doubled")
+        finds_lit::<Word>(&rt, heap, "word")?;
+        finds_lit::<RunList>(&rt, heap, "run list")?;
+        finds_lit::<Doubled<Word>>(&rt, heap, "word doubled")?;
+        finds_lit::<Doubled<Doubled<Word>>>(&rt, heap, "word doubled twice")?;
+        finds_lit::<Doubled<RunList>>(&rt, heap, "run list doubled")
     }
 
     #[test]
@@ -227,18 +231,18 @@ mod tests {
         Ok(all)
     }
 
-    fn any_cut<B: Block>(rt: &impl Abort, heap: Global) -> Result<(), Fail> {
+    fn any_cut<B: Block>(rt: &impl Abort, heap: Global, kind: &str) -> Result<(), Fail> {
         let expected = plain(heap, RECORDING)?;
         for cut in 0..RECORDING.len() {
             let found = cut_at::<B>(heap, cut)?;
-            assert_eq!(rt; found.as_slice(), expected.as_slice());
+            assert_eq!(rt; found.as_slice(), expected.as_slice(), "{kind}");
         }
         let mut table = blocks::<B>(heap)?;
         let mut ends = vec![in heap; NOWHERE; RECORDING.len() + 1]?;
         let n = list_flashes(RECORDING, table.as_mut_slice(), ends.as_mut_slice())?;
-        assert_eq!(rt; n, expected.len());
+        assert_eq!(rt; n, expected.len(), "{kind}");
         for (end, plain) in ends.iter().zip(expected.iter()) {
-            assert_eq!(rt; *end, *plain);
+            assert_eq!(rt; *end, *plain, "{kind}");
         }
         Ok(())
     }
@@ -246,11 +250,11 @@ mod tests {
     #[test]
     fn any_cut_gives_the_ends(rt: HostRuntime) -> Result<(), Fail> {
         let heap = rt.alloc();
-        any_cut::<Word>(&rt, heap).note("word")?;
-        any_cut::<RunList>(&rt, heap).note("run list")?;
-        any_cut::<Doubled<Word>>(&rt, heap).note("word doubled")?;
-        any_cut::<Doubled<Doubled<Word>>>(&rt, heap).note("word doubled twice")?;
-        any_cut::<Doubled<RunList>>(&rt, heap).note("run list doubled")
+        any_cut::<Word>(&rt, heap, "word")?;
+        any_cut::<RunList>(&rt, heap, "run list")?;
+        any_cut::<Doubled<Word>>(&rt, heap, "word doubled")?;
+        any_cut::<Doubled<Doubled<Word>>>(&rt, heap, "word doubled twice")?;
+        any_cut::<Doubled<RunList>>(&rt, heap, "run list doubled")
     }
 
     #[test]

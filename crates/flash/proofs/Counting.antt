@@ -1,8 +1,8 @@
 -- Lines counted from place to place. Assumes nothing.
-use Rattle.std.proofs.Common.{◌≡◌, ℕ, zero, suc, ◌+◌, ◌-◌, ◌<◌, ◌≤◌, Bool, true, false, cond, eqb, List, get_or, sym, refl, ap, ◌∙◌, subst, arith}
+use Rattle.std.proofs.Common.{◌≡◌, ℕ, zero, suc, ◌+◌, ◌-◌, ◌<◌, ◌≤◌, true, false, cond, eqb, List, get_or, sym, ap, ◌∙◌, subst, arith}
 use Rattle.flash.specs.declared.lines.Line.{Line}
 use Rattle.flash.specs.Flashes.{line_feed, line_at, column_at}
-use Rattle.flash.specs.Lines.{FeedsAt, Counted}
+use Rattle.flash.specs.Lines.{Counted}
 
 -- a byte that is no line feed
 on : (b : List ℕ) (l : Line) (p : ℕ) → eqb (get_or b p 0) line_feed ≡ false → Counted b l p → Counted b l (suc p)

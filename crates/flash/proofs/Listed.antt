@@ -3,7 +3,7 @@ use Rattle.std.proofs.Common.{◌≡◌, ℕ, zero, suc, ◌+◌, ◌-◌, ◌<�
 use Rattle.std.proofs.lemmas.List.{append-nil}
 use Rattle.refusal.specs.declared.ends.End.{End}
 use Rattle.flash.specs.declared.lines.Line.{Line}
-use Rattle.flash.specs.Flashes.{complete, line_at, column_at, end_at, between}
+use Rattle.flash.specs.Flashes.{complete, column_at, end_at, between}
 use Rattle.flash.specs.Lines.{FeedsAt, Counted}
 
 -- ---- ends between positions

@@ -1,10 +1,10 @@
 -- Blocks and pieces of one recording. Assumes nothing.
-use Rattle.std.proofs.Common.{◌≡◌, ℕ, zero, suc, ◌+◌, ◌-◌, ◌<◌, ◌≤◌, min, Bool, true, false, not, ◌&&◌, eqb, List, [], ◌∷◌, ◌++◌, length, get_or, take, drop, set, sym, refl, ap, ◌∙◌, subst, ap₂, append_assoc, arith, length-drop, length-take, get_or-drop, get_or-take, drop-drop, take-suc-set, drop-set-lt}
+use Rattle.std.proofs.Common.{◌≡◌, ℕ, zero, suc, ◌+◌, ◌-◌, ◌<◌, ◌≤◌, Bool, true, false, not, ◌&&◌, eqb, List, [], ◌∷◌, ◌++◌, length, get_or, take, drop, set, sym, refl, ap, ◌∙◌, subst, ap₂, arith, length-drop, length-take, get_or-drop, get_or-take, drop-drop, take-suc-set, drop-set-lt}
 use Rattle.std.proofs.lemmas.List.{get_or_past, append-nil}
 use Rattle.refusal.specs.declared.ends.End.{End}
 use Rattle.flash.specs.declared.lines.Line.{Line}
 use Rattle.flash.specs.declared.reader.Flashes.{Flashes}
-use Rattle.flash.specs.Flashes.{lit_byte, line_feed, lit, lit_before, complete, line_at, column_at, end_at, between, flashes}
+use Rattle.flash.specs.Flashes.{lit_byte, line_feed, lit, lit_before, complete, line_at, column_at, between, flashes}
 use Rattle.flash.specs.Lines.{FeedsAt, Counted}
 use Rattle.flash.specs.Marks.{before as before_lit}
 use Rattle.flash.specs.Feeding.{Tells, Holds, Fed}

@@ -22,8 +22,8 @@ const SEEN: usize = 65_527;
 // How many bytes go into one block: as many as it has places, where all of them can be asked about.
 fn step<B: Block>() -> usize
     ensures some { 0 < result }
-    ensures seen { result ≤ answered places }
-    ensures whole { (result < answered places) ⊎ (result ≡ places) }
+    ensures seen { result ≤ answered B.places }
+    ensures whole { (result < answered B.places) ⊎ (result ≡ B.places) }
 {
     B::width().min(SEEN)
 }
@@ -62,8 +62,8 @@ fn read_block<B: Block>(
     count: usize,
 ) -> Result<(Flashes, usize), Refusal>
     requires eight { 8 ≤ length table.old }
-    requires seen { length bytes.now ≤ answered places }
-    requires whole { (length bytes.now < answered places) ⊎ (length bytes.now ≡ places) }
+    requires seen { length bytes.now ≤ answered B.places }
+    requires whole { (length bytes.now < answered B.places) ⊎ (length bytes.now ≡ B.places) }
     requires far { reader.position + length bytes.now ≤ longest }
     requires room { count + length bytes.now ≤ length ends.old }
     ensures { ReadsBlock reader bytes.now ends.old ends.new count result }

@@ -1,4 +1,7 @@
 // Runs of lit samples in a recording of turns: the small worked caller of the stream calls.
+
+#![tactic(auto)]
+
 mod feeding;
 mod lines;
 mod listing;

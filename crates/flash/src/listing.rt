@@ -20,7 +20,7 @@ pub(crate) fn list_block<B: Block>(
     ends: &mut [End],
     count: usize,
 ) -> (Line, usize)
-    requires seen { n ≤ answered places }
+    requires seen { n ≤ answered B.places }
     requires far { base + n ≤ longest }
     requires room { count + n ≤ length ends.old }
     requires number { line.number ≤ base + 1 }
@@ -29,8 +29,8 @@ pub(crate) fn list_block<B: Block>(
     ensures start { result.0.start ≤ base + n }
     ensures grown { count ≤ result.1 }
     ensures few { result.1 ≤ count + n }
-    ensures lines { (b : List ℕ) → FeedsAt b base n (bit (row feeds)) → Counted b line base → Counted b result.0 (base + n) }
-    ensures ends { (b : List ℕ) → FeedsAt b base n (bit (row feeds)) → Counted b line base → ((i : ℕ) → i < n → bit (row marks) i ≡ complete b (base + i)) → take result.1 ends.new ≡ take count ends.old ++ between b base n }
+    ensures lines { (b : List ℕ) → FeedsAt b base n (bit (B.Block.row feeds)) → Counted b line base → Counted b result.0 (base + n) }
+    ensures ends { (b : List ℕ) → FeedsAt b base n (bit (B.Block.row feeds)) → Counted b line base → ((i : ℕ) → i < n → bit (B.Block.row marks) i ≡ complete b (base + i)) → take result.1 ends.new ≡ take count ends.old ++ between b base n }
     ensures rest { drop result.1 ends.new ≡ drop result.1 ends.old }
 {
     let mut line = line;

@@ -25,8 +25,8 @@ pub(crate) struct Marks<B> {
 
 // Whether place `n` is reached; behind the block the fallen bit says so.
 fn reaches<B: Block>(reached: B, fallen: bool, n: usize) -> bool
-    ensures within { n < answered places → result ≡ bit (row reached) n }
-    ensures behind { answered places ≤ n → result ≡ fallen }
+    ensures within { n < answered B.places → result ≡ bit (B.Block.row reached) n }
+    ensures behind { answered B.places ≤ n → result ≡ fallen }
 {
     if n >= B::width() {
         return fallen;
@@ -45,9 +45,9 @@ pub(crate) fn mark_block<B: Block>(
     table: &mut [B],
 ) -> Result<Marks<B>, Refusal>
     requires eight { 8 ≤ length table.old }
-    requires seen { length bytes.now ≤ answered places }
-    requires whole { (length bytes.now < answered places) ⊎ (length bytes.now ≡ places) }
-    ensures { Marked row lit bytes.now result }
+    requires seen { length bytes.now ≤ answered B.places }
+    requires whole { (length bytes.now < answered B.places) ⊎ (length bytes.now ≡ B.places) }
+    ensures { Marked B.Block.row lit bytes.now result }
 {
     transpose(bytes, table)?;
     let samples = class(table, ByteSet::none().with(LIT))?;

@@ -1,5 +1,8 @@
 // Lists the flashes of a recording: reads it from standard input and prints, for each run of lit samples, the turn and the
 // column behind its last one.
+
+#![tactic(auto)]
+
 ghost use Rattle.std.specs.Prelude.{◌≤◌, length, IfOk};
 
 use block::Block;

@@ -1,4 +1,7 @@
 // Why a call of the reader is refused, and the record of an end.
+
+#![tactic(auto)]
+
 ghost use Rattle.std.specs.Prelude.{◌≡◌};
 ghost use Rattle.refusal.specs.Refusals.{number_of, place_of};
 

@@ -1,16 +1,16 @@
 -- The laws of decimals.
 use Rattle.std.proofs.Common.{◌≡◌, ℕ, zero, suc, ◌+◌, ◌-◌, ◌*◌, ◌/◌, ◌%◌, ◌^◌, ◌<◌, ◌≤◌, ltb, List, [], ◌∷◌, ◌++◌, length, get_or, sym, refl, ◌∙◌, ⊎_elim, pow-suc, add-one, arith}
-use Rattle.report.specs.Decimals.{digits, decimal, read_on, Writes, DecimalsWrite}
+use Rattle.report.specs.Decimals.{digits, decimal, read_on, DecimalsWrite}
 use Rattle.std.proofs.lemmas.List.{length_push, get_or_append_left, get_or_push}
-use Rattle.std.proofs.lemmas.Bool.{cond_true, cond_false, lt-ltb, le-ltb, cases_lt}
+use Rattle.std.proofs.lemmas.Bool.{cond-true, cond-false, lt-ltb, le-ltb, cases_lt}
 
 digits_one : (most n : ℕ) → n < 10 → digits (suc most) n ≡ (48 + n) ∷ []
 unfolding digits
-digits_one most n h = cond_true (ltb n 10) _ _ (lt-ltb n 10 h)
+digits_one most n h = cond-true (ltb n 10) _ _ (lt-ltb n 10 h)
 
 digits_more : (most n : ℕ) → 10 ≤ n → digits (suc most) n ≡ digits most (n / 10) ++ ((48 + n % 10) ∷ [])
 unfolding digits
-digits_more most n h = cond_false (ltb n 10) _ _ (le-ltb n 10 h)
+digits_more most n h = cond-false (ltb n 10) _ _ (le-ltb n 10 h)
 
 -- room for more digits changes nothing
 digits_enough : (m k n : ℕ) → n < m → n < k → digits m n ≡ digits k n

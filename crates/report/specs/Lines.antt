@@ -12,7 +12,7 @@ use Rattle.std.specs.List.{concat}
 abbrev pub line_feed : List ℕ
 line_feed = 10 ∷ []
 
--- an end: its line and its column; `joined` puts the bytes one behind the other
+-- an end: its line and its column; `concat` puts the bytes one behind the other
 abbrev pub end_line : End → List ℕ
 end_line end = concat (decimal end.line ∷ codes " " ∷ decimal end.column ∷ line_feed ∷ [])
 

@@ -1,4 +1,7 @@
 // Prints ends and refusals, a line each, into a buffer that the caller hands over. Nothing is allocated.
+
+#![tactic(auto)]
+
 ghost use Rattle.std.specs.Prelude.{◌≡◌, ◌+◌, ◌<◌, ◌≤◌, length, MatchResult};
 ghost use Rattle.report.specs.Decimals.{decimal, DecimalsWrite};
 ghost use Rattle.report.specs.Lines.{end_line, declined_line, Printed};

@@ -1,8 +1,8 @@
 -- The turns of `back`. Assumes nothing.
-use Rattle.std.proofs.Common.{◌≡◌, ℕ, ◌+◌, ◌*◌, ◌/◌, ◌%◌, ◌^◌, ◌<◌, ◌≤◌, max, Bool, List, length, get_or, set, Ok, Err, Result, sym, refl, ap, ◌∙◌, subst, inl, inr, mod-eq_of_lt, arith, get_or-set_other, get_or-set_same}
+use Rattle.std.proofs.Common.{◌≡◌, ℕ, ◌+◌, ◌*◌, ◌/◌, ◌%◌, ◌^◌, ◌<◌, ◌≤◌, max, Bool, List, length, get_or, set, Ok, Err, Result, sym, ap, ◌∙◌, subst, inl, inr, mod-eq_of_lt, arith, get_or-set_other, get_or-set_same}
 use native.Mathlib.Decide.{dec_lt}
 use lib.Bits.{bit_and}
-use Rattle.block.specs.Rows.{bit, tab, value, bit_of}
+use Rattle.block.specs.Rows.{bit, bit_of}
 use Rattle.block.proofs.Groups.{group, group_is, group_lt, bit_group}
 use Rattle.block.proofs.Numbers.{value_of}
 use Rattle.block.proofs.Rows.{bit_tab, value_ext}

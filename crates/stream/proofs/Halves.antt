@@ -1,7 +1,7 @@
 -- Sets of numbers cut in halves, and the rows that choose between them. Assumes nothing.
-use Rattle.std.proofs.Common.{◌≡◌, ℕ, zero, suc, ◌+◌, ◌-◌, ◌*◌, ◌/◌, ◌%◌, ◌^◌, ◌<◌, ◌≤◌, Bool, true, false, cond, not, ◌&&◌, ◌||◌, ltb, List, sym, refl, ap, ◌∙◌, subst, ap₂, mod-lt, pow-suc, arith, pow_pos, pow_mono, shl_exact, shr_lt, le-ltb, lt-ltb}
+use Rattle.std.proofs.Common.{◌≡◌, ℕ, suc, ◌+◌, ◌-◌, ◌*◌, ◌/◌, ◌%◌, ◌^◌, ◌<◌, ◌≤◌, Bool, true, false, cond, not, ◌&&◌, ltb, List, sym, refl, ap, ◌∙◌, subst, ap₂, mod-lt, pow-suc, arith, pow_pos, pow_mono, shl_exact, shr_lt, le-ltb, lt-ltb}
 use lib.Bits.{bit_and, and_mask}
-use lib.Pow.{pow-lt, split}
+use lib.Pow.{split}
 use Rattle.block.specs.Rows.{bit, tab, worth, value, is_one, bit_of}
 use Rattle.block.specs.Calls.{and_row, xor_row, not_row, differ}
 use Rattle.block.proofs.Places.{place_low, place_high, zero_place}

@@ -1,11 +1,11 @@
 -- One value more in a set. Assumes nothing.
-use Rattle.std.proofs.Common.{◌≡◌, ℕ, zero, suc, ◌+◌, ◌-◌, ◌*◌, ◌/◌, ◌%◌, ◌^◌, ◌<◌, ◌≤◌, Bool, true, false, cond, ◌||◌, eqb, ltb, sym, refl, ap, ◌∙◌, ap₂, add-zero, one-mul, arith, pow_pos, shl_exact, ltb-false, ltb-true, eq-eqb, ne_eqb}
+use Rattle.std.proofs.Common.{◌≡◌, ℕ, ◌+◌, ◌-◌, ◌*◌, ◌%◌, ◌^◌, ◌<◌, ◌≤◌, Bool, true, false, cond, ◌||◌, eqb, ltb, sym, refl, ap, ◌∙◌, one-mul, arith, pow_pos, shl_exact, ltb-false, ltb-true, eq-eqb, ne_eqb}
 use mathlib.Core.Bool.{or_comm}
 use native.Mathlib.Decide.{dec_lt}
 use lib.Bits.{bit_or}
 use Rattle.std.proofs.lemmas.Bool.Decides.{nat_tests}
 use Rattle.block.specs.Rows.{is_one, bit_of}
-use Rattle.block.proofs.Places.{place, place_low, place_high, place_past, zero_place}
+use Rattle.block.proofs.Places.{place_low, place_high, place_past, zero_place}
 use Rattle.block.proofs.Numbers.{bit_or_lem}
 
 -- a power of two has one bit

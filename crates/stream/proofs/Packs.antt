@@ -1,13 +1,11 @@
 -- Bytes gathered in a number, the first the lowest, and the turns of the loops that do so. Assumes nothing.
-use Rattle.std.proofs.Common.{◌≡◌, ℕ, zero, suc, ◌+◌, ◌-◌, ◌*◌, ◌/◌, ◌%◌, ◌^◌, ◌<◌, ◌≤◌, Bool, true, false, cond, ltb, ◌⊎◌, List, [], ◌∷◌, length, get_or, drop, sym, refl, ap, ◌∙◌, subst, ap₂, inl, inr, mod-eq_of_lt, arith, pow_pos, pow_mono, pow-add, shl_exact, le-ltb, lt-ltb}
+use Rattle.std.proofs.Common.{◌≡◌, ℕ, zero, suc, ◌+◌, ◌-◌, ◌*◌, ◌/◌, ◌%◌, ◌^◌, ◌<◌, ◌≤◌, Bool, false, cond, ltb, ◌⊎◌, List, [], ◌∷◌, length, get_or, drop, sym, refl, ap, ◌∙◌, subst, inl, inr, arith, pow_mono, pow-add, shl_exact, le-ltb, lt-ltb}
 use native.Mathlib.Decide.{dec_lt}
 use lib.Arith.{digits_lt}
-use Rattle.block.specs.Rows.{bit, tab, value, is_one, bit_of}
-use Rattle.block.proofs.Groups.{group, group_lt, bit_group}
-use Rattle.block.proofs.Numbers.{value_of}
+use Rattle.block.specs.Rows.{bit, tab, is_one, bit_of}
 use Rattle.block.proofs.Places.{place_low, place_high, place_past, zero_place}
-use Rattle.block.proofs.Rows.{bit_tab, tab_is, value_ext}
-use Rattle.stream.specs.Tables.{rows, held, basis, Transposed}
+use Rattle.block.proofs.Rows.{bit_tab, tab_is}
+use Rattle.stream.specs.Tables.{rows, basis}
 use Rattle.stream.proofs.Tables.{rows_wide}
 
 pub bit_zero : (i : ℕ) → bit_of 0 i ≡ false

@@ -1,10 +1,10 @@
 -- What MatchStar's sum shows. Assumes nothing.
-use Rattle.std.proofs.Common.{◌≡◌, ℕ, zero, suc, ◌+◌, ◌<◌, ◌≤◌, Bool, true, false, ◌&&◌, ◌||◌, ◌⊎◌, ◌↔◌, List, length, sym, refl, ap, ◌∙◌, subst, ap₂, inl, inr, arith}
+use Rattle.std.proofs.Common.{◌≡◌, ℕ, zero, suc, ◌<◌, ◌≤◌, Bool, true, false, ◌&&◌, ◌||◌, ◌⊎◌, List, length, sym, refl, ap, ◌∙◌, subst, ap₂, inl, inr, arith}
 use native.Mathlib.Decide.{dec_lt}
 use Rattle.block.specs.Rows.{bit, tab, row_of}
 use Rattle.block.specs.Calls.{differ, and_row, or_row, xor_row, Add}
 use Rattle.block.specs.Sums.{over, sum, sum_row, sum_out}
-use Rattle.block.proofs.Rows.{wrong, bit_tab, bit_at, bit_past, tab_ext}
+use Rattle.block.proofs.Rows.{wrong, bit_tab, bit_past}
 use Rattle.block.proofs.Sums.{sums_agree_lem}
 use Rattle.stream.specs.MatchStar.{star_row, star_out, Through, Reached, Star, Examples}
 

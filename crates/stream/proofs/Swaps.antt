@@ -1,11 +1,11 @@
 -- The three swaps of `spread`. Assumes nothing.
-use Rattle.std.proofs.Common.{◌≡◌, ℕ, zero, suc, ◌+◌, ◌-◌, ◌*◌, ◌/◌, ◌%◌, ◌^◌, ◌<◌, ◌≤◌, Bool, true, false, cond, not, ◌&&◌, ◌||◌, eqb, ltb, leb, sym, refl, ap, ◌∙◌, subst, ap₂, mod-lt, div-add-mod', arith, pow_pos, shr-shr, ltb-true, eqb-true, le-leb, leb-true}
+use Rattle.std.proofs.Common.{◌≡◌, ℕ, zero, suc, ◌+◌, ◌-◌, ◌*◌, ◌/◌, ◌%◌, ◌^◌, ◌<◌, Bool, true, false, cond, not, ◌&&◌, eqb, ltb, leb, sym, refl, ap, ◌∙◌, subst, ap₂, div-add-mod', arith, pow_pos, shr-shr, ltb-true, eqb-true, le-leb, leb-true}
 use native.Mathlib.Decide.{dec_lt}
 use lib.Bits.{bit_and, bit_xor}
 use borrow.Author.Tests.{lt-leb}
 use Rattle.block.specs.Rows.{is_one, bit_of}
 use Rattle.block.specs.Calls.{differ}
-use Rattle.block.proofs.Places.{place, place_low, place_high, zero_place}
+use Rattle.block.proofs.Places.{place_low, place_high, zero_place}
 use Rattle.block.proofs.Numbers.{bit_and_lem, bit_xor_lem}
 use Rattle.block.proofs.Rows.{wrong}
 use Rattle.stream.specs.Swaps.{apart, swapped}

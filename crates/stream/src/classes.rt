@@ -11,7 +11,7 @@ use refusal::Refusal;
 
 // Each place of `high` where `by` has a one, and of `low` where it has none.
 fn choose<B: Block>(by: B, high: B, low: B) -> B
-    ensures { row result ≡ tab places (λ i. (if bit (row by) i then bit (row high) i else bit (row low) i)) }
+    ensures { B.Block.row result ≡ tab B.places (λ i. (if bit (B.Block.row by) i then bit (B.Block.row high) i else bit (B.Block.row low) i)) }
 {
     low.xor(low.xor(high).and(by))
 }
@@ -23,7 +23,7 @@ fn among<B: Block>(set: u128, n: usize, size: usize, table: &[B]) -> B
     requires few { n ≤ 7 }
     requires size { size ≡ 2 ^ n }
     requires set { set < 2 ^ size }
-    ensures { row result ≡ tab places (λ i. bit_of set (held_by n (rows row table.now) i)) }
+    ensures { B.Block.row result ≡ tab B.places (λ i. bit_of set (held_by n (rows B.Block.row table.now) i)) }
 {
     if set == 0 {
         return B::none();
@@ -44,7 +44,7 @@ fn halves<B: Block>(low: u128, high: u128, n: usize, half: usize, table: &[B]) -
     requires half { half ≡ 2 ^ n }
     requires low { low < 2 ^ half }
     requires high { high < 2 ^ half }
-    ensures { row result ≡ tab places (λ i. (if bit (rows row table.now n) i then bit_of high (held_by n (rows row table.now) i) else bit_of low (held_by n (rows row table.now) i))) }
+    ensures { B.Block.row result ≡ tab B.places (λ i. (if bit (rows B.Block.row table.now n) i then bit_of high (held_by n (rows B.Block.row table.now) i) else bit_of low (held_by n (rows B.Block.row table.now) i))) }
 {
     if low == high {
         return among(low, n, half, table);
@@ -62,7 +62,7 @@ fn halves<B: Block>(low: u128, high: u128, n: usize, half: usize, table: &[B]) -
 // The block whose place i is one exactly where the byte that blocks 0 to 7 hold at place i is in the set. A table of fewer
 // than eight blocks is refused.
 pub fn class<B: Block>(table: &[B], set: ByteSet) -> Result<B, Refusal>
-    ensures { Classes row places table.now set result }
+    ensures { Classes B.Block.row B.places table.now set result }
 {
     if table.len() < BASIS {
         return Err(Refusal::TooFewBlocks);

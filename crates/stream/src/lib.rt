@@ -1,4 +1,7 @@
 // The stream calls, written once for every kind of block, on lent slices of blocks.
+
+#![tactic(auto)]
+
 mod classes;
 mod set;
 mod sets;

@@ -13,7 +13,7 @@ pub const BASIS: usize = 8;
 
 fn clear<B: Block>(table: &mut [B])
     requires { 8 ≤ length table.old }
-    ensures first { (j : ℕ) → j < 8 → rows row table.new j ≡ none_row places }
+    ensures first { (j : ℕ) → j < 8 → rows B.Block.row table.new j ≡ none_row B.places }
     ensures later { drop 8 table.new ≡ drop 8 table.old }
 {
     for j in 0..BASIS {
@@ -24,9 +24,9 @@ fn clear<B: Block>(table: &mut [B])
 // Eight gathered bytes, the first the lowest, at the places 8k to 8k + 7: block j gets their bits worth 2^j.
 fn deliver<B: Block>(table: &mut [B], k: usize, gathered: u64)
     requires eight { 8 ≤ length table.old }
-    requires served { Served places k }
-    ensures inside { (j n : ℕ) → j < 8 → n < 8 → bit (rows row table.new j) (8 * k + n) ≡ bit_of gathered (8 * n + j) }
-    ensures outside { (j i : ℕ) → j < 8 → (i < 8 * k) ⊎ (8 * k + 8 ≤ i) → bit (rows row table.new j) i ≡ bit (rows row table.old j) i }
+    requires served { Served B.places k }
+    ensures inside { (j n : ℕ) → j < 8 → n < 8 → bit (rows B.Block.row table.new j) (8 * k + n) ≡ bit_of gathered (8 * n + j) }
+    ensures outside { (j i : ℕ) → j < 8 → (i < 8 * k) ⊎ (8 * k + 8 ≤ i) → bit (rows B.Block.row table.new j) i ≡ bit (rows B.Block.row table.old j) i }
     ensures later { drop 8 table.new ≡ drop 8 table.old }
 {
     let basis = spread(gathered);
@@ -38,8 +38,8 @@ fn deliver<B: Block>(table: &mut [B], k: usize, gathered: u64)
 // The eight bytes at the places 8k to 8k + 7, the first the lowest.
 fn collect<B: Block>(table: &[B], k: usize) -> u64
     requires eight { 8 ≤ length table.now }
-    requires served { Served places k }
-    ensures { (j n : ℕ) → j < 8 → n < 8 → bit_of result (8 * n + j) ≡ bit (rows row table.now j) (8 * k + n) }
+    requires served { Served B.places k }
+    ensures { (j n : ℕ) → j < 8 → n < 8 → bit_of result (8 * n + j) ≡ bit (rows B.Block.row table.now j) (8 * k + n) }
 {
     let mut basis = 0u64;
     for j in 0..BASIS {
@@ -50,7 +50,7 @@ fn collect<B: Block>(table: &[B], k: usize) -> u64
 
 // Whether a table and a count of bytes go together.
 fn agree<B: Block>(blocks: usize, bytes: usize) -> Result<(), Refusal>
-    ensures { Agrees blocks bytes (answered places) result }
+    ensures { Agrees blocks bytes (answered B.places) result }
 {
     if blocks < BASIS {
         return Err(Refusal::TooFewBlocks);
@@ -64,7 +64,7 @@ fn agree<B: Block>(blocks: usize, bytes: usize) -> Result<(), Refusal>
 // Blocks 0 to 7 of the table get the bytes' bits. Refused, the table as it was: a table of fewer than eight blocks, then
 // more bytes than the answered width.
 pub fn transpose<B: Block>(bytes: &[u8], table: &mut [B]) -> Result<(), Refusal>
-    ensures { Transposes row places bytes.now table.old table.new result }
+    ensures { Transposes B.Block.row B.places bytes.now table.old table.new result }
 {
     agree::<B>(table.len(), bytes.len())?;
     clear(table);
@@ -84,7 +84,7 @@ pub fn transpose<B: Block>(bytes: &[u8], table: &mut [B]) -> Result<(), Refusal>
 
 // The buffer gets the bytes that blocks 0 to 7 of the table hold. Refused, the buffer as it was, as `transpose` is.
 pub fn back<B: Block>(table: &[B], buffer: &mut [u8]) -> Result<(), Refusal>
-    ensures { Returns row places table.now buffer.old buffer.new result }
+    ensures { Returns B.Block.row B.places table.now buffer.old buffer.new result }
 {
     agree::<B>(table.len(), buffer.len())?;
     let mut gathered = 0u64;
@@ -103,8 +103,8 @@ pub fn transpose_and_back<B: Block>(
     table: &mut [B],
     buffer: &mut [u8],
 ) -> Result<(), Refusal>
-    ensures bytes { RoundTrip (length table.old) (answered places) bytes.now buffer.old buffer.new result }
-    ensures table { Keeps row places bytes.now table.old table.new result }
+    ensures bytes { RoundTrip (length table.old) (answered B.places) bytes.now buffer.old buffer.new result }
+    ensures table { Keeps B.Block.row B.places bytes.now table.old table.new result }
 {
     agree::<B>(table.len(), bytes.len().max(buffer.len()))?;
     transpose(bytes, table)?;

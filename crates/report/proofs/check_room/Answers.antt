@@ -2,8 +2,8 @@ use Rattle.std.proofs.Common.{length, ap, arith, rules}
 use Rattle.report.proofs.Lines.{length_line_more, line_all}
 use Rattle.report.proofs.check_room.Goals as goal
 
-pub returns-in-default : goal.returns-in-default
-returns-in-default c = search (rules, length_line_more)
+pub returns-in_default : goal.returns-in_default
+returns-in_default c = search (rules, length_line_more)
 
 pub loop-part-preserved : goal.loop-part-preserved
 loop-part-preserved c = search (rules, length_line_more)

@@ -4,8 +4,8 @@ use Rattle.report.proofs.Decimals.{length_some, length_more, decimal_one, decima
 use Rattle.report.proofs.Overwritten.{over_one, over_last}
 use Rattle.report.proofs.put_number.Goals as goal
 
-pub overflow-sub-place : goal.overflow-sub-place
-overflow-sub-place c = omega (arith, length_some c.loop-rest.rest)
+pub overflow_sub-place : goal.overflow_sub-place
+overflow_sub-place c = omega (arith, length_some c.loop-rest.rest)
 
 pub bounds-buffer-place : goal.bounds-buffer-place
 bounds-buffer-place c = omega (arith, length_some c.loop-rest.rest)

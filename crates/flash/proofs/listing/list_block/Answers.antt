@@ -2,7 +2,7 @@ use Rattle.std.proofs.Common.{arith}
 use Rattle.block.specs.Rows.{bit}
 use Rattle.flash.proofs.Listed.{begun, turn, ended}
 use Rattle.flash.proofs.listing.list_block.Goals as goal
-use Rattle.flash.proofs.listing.list_block.Goals.{in-Some+then-p-n, in-default}
+use Rattle.flash.proofs.listing.list_block.Goals.{in-Some+then-p-n, in_default}
 
 pub loop-p-init : goal.loop-p-init
 loop-p-init g c =
@@ -32,7 +32,7 @@ returns g c =
           (λ i h l.
           elim c.match-first.branch [
             | in-Some+then-p-n x ↦ x.in-Some.ensures.3 i h (let q = x.if-p-n.true in omega arith)
-            | in-default x ↦ x.in-default.ensures i h (let q = c.requires.seen in omega arith)
+            | in_default x ↦ x.in_default.ensures i h (let q = c.requires.seen in omega arith)
           ]);
       rest = L.rest;
     }

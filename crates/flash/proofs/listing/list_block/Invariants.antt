@@ -1,7 +1,5 @@
-use Rattle.std.proofs.Common.{◌≡◌, ℕ, ◌+◌, ◌-◌, ◌<◌, ◌≤◌, List, ◌++◌, take, drop}
+use Rattle.std.proofs.Common.{◌-◌}
 use Rattle.block.specs.Rows.{bit}
-use Rattle.flash.specs.Flashes.{complete, between}
-use Rattle.flash.specs.Lines.{FeedsAt, Counted}
 use Rattle.flash.proofs.Listed.{Listed}
 use Rattle.flash.proofs.listing.list_block.Given as goal
 

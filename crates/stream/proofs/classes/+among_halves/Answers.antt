@@ -1,8 +1,8 @@
-use Rattle.std.proofs.Common.{◌≡◌, ℕ, suc, ◌-◌, ◌^◌, ◌<◌, Bool, List, sym, ap, ◌∙◌, subst, arith}
+use Rattle.std.proofs.Common.{◌≡◌, ℕ, suc, ◌-◌, ◌^◌, ◌<◌, sym, ap, ◌∙◌, subst, arith}
 use Rattle.block.specs.Rows.{tab, bit_of}
 use Rattle.stream.specs.Tables.{rows, held_by}
 use Rattle.stream.proofs.Tables.{rows_read}
-use Rattle.stream.proofs.Halves.{cut, lower, among_one, among_halves, low_half, high_half, both_halves}
+use Rattle.stream.proofs.Halves.{cut, among_one, among_halves, low_half, high_half, both_halves}
 use Rattle.stream.proofs.classes.+among_halves.Goals as goal
 
 pub among-returns-then-n-eq0 : goal.among-returns-then-n-eq0
@@ -14,8 +14,8 @@ among-returns-then-n-eq0 g t c =
     among_one w rs set _ c.if-set-eq0.false (subst (λ (n : ℕ). set < 2 ^ n) one c.requires.set) c.all.ensures
     ∙ ap (λ (n : ℕ). tab w (λ i. bit_of set (held_by n rs i))) (sym c.if-n-eq0.true)
 
-pub among-overflow-sub-half : goal.among-overflow-sub-half
-among-overflow-sub-half g t c = (cut c.args.n c.args.set c.args.size (omega arith) c.requires.few c.requires.size c.requires.set).room
+pub among-overflow_sub-half : goal.among-overflow_sub-half
+among-overflow_sub-half g t c = (cut c.args.n c.args.set c.args.size (omega arith) c.requires.few c.requires.size c.requires.set).room
 
 pub among-halves-requires : goal.among-halves-requires
 among-halves-requires g t c κs within =

@@ -1,4 +1,4 @@
-use Rattle.std.proofs.Common.{ℕ, ◌+◌, ◌*◌, sym, ap, ◌∙◌, arith}
+use Rattle.std.proofs.Common.{ℕ, ◌+◌, ◌*◌, ap, ◌∙◌, arith}
 use Rattle.block.specs.Rows.{bit_of}
 use Rattle.stream.specs.Tables.{rows}
 use Rattle.stream.proofs.Backs.{filled}
@@ -19,4 +19,4 @@ loop-i-preserved g c =
     c.loop-i.invariant.done
 
 pub returns : goal.returns
-returns g c = let a = c.in-ok-agree.ensures in (a.0, a.1, λ i l. c.loop-i.invariant.done i (omega arith))
+returns g c = let a = c.in_ok-agree.ensures in (a.0, a.1, λ i l. c.loop-i.invariant.done i (omega arith))

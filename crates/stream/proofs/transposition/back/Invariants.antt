@@ -1,4 +1,3 @@
-use Rattle.std.proofs.Common.{◌≡◌}
 use Rattle.stream.specs.Tables.{rows}
 use Rattle.stream.proofs.Backs.{Filled}
 use Rattle.stream.proofs.transposition.back.Given as goal

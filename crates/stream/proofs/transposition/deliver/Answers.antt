@@ -1,4 +1,4 @@
-use Rattle.std.proofs.Common.{◌≡◌, ℕ, ◌*◌, ◌/◌, ◌^◌, Bool, List, sym, ◌∙◌, subst, arith, drop-set-lt}
+use Rattle.std.proofs.Common.{◌*◌, ◌/◌, ◌^◌, Bool, List, sym, ◌∙◌, subst, arith, drop-set-lt}
 use lib.Bits.{bit_and}
 use Rattle.block.specs.Calls.{Put}
 use Rattle.stream.specs.Tables.{rows}

@@ -1,4 +1,4 @@
-use Rattle.std.proofs.Common.{ℕ, ◌+◌, List, sym, ◌∙◌, subst₂, arith, rules}
+use Rattle.std.proofs.Common.{◌+◌, sym, ◌∙◌, subst₂, arith, rules}
 use Rattle.stream.proofs.Packs.{Turned, begun, turn_fits, turn_part, turn_full, end_whole, end_part}
 use Rattle.stream.proofs.transposition.transpose.Goals as goal
 use Rattle.stream.proofs.transposition.transpose.Goals.{then-i, else-i}
@@ -6,9 +6,9 @@ use Rattle.stream.proofs.transposition.transpose.Goals.{then-i, else-i}
 pub loop-i-init : goal.loop-i-init
 loop-i-init g c = begun g.B.Block.row g.B.Block.places c.args.bytes.now c.clear.new.table c.clear.ensures.first
 
-pub overflow-add-gathered : goal.overflow-add-gathered
-overflow-add-gathered g c =
-    let byte = c.type-inv.bytes c.loop-i.i in
+pub overflow_add-gathered : goal.overflow_add-gathered
+overflow_add-gathered g c =
+    let byte = c.type_inv.bytes c.loop-i.i in
     let f = turn_fits g.B.Block.row g.B.Block.places c.args.bytes.now c.clear.new.table c.loop-i.i c.loop-i.table c.loop-i.gathered c.loop-i.invariant (omega arith) in
     search rules
 
@@ -20,7 +20,7 @@ loop-i-preserved g c =
     let old = c.clear.new.table in
     let i = c.loop-i.i in
     let T = c.loop-i.invariant in
-    let byte = c.type-inv.bytes i in
+    let byte = c.type_inv.bytes i in
     elim c.if-i.branch [
       | then-i x ↦
           subst₂ (λ t m. Turned row w bytes (i + 1) old t m) (sym x.table-is) (sym x.gathered-is)
@@ -35,7 +35,7 @@ pub returns-then-bytes-ne0 : goal.returns-then-bytes-ne0
 returns-then-bytes-ne0 g c =
     let T = c.loop-i.invariant in
     let d = c.deliver-then-bytes-ne0 in
-    let a = c.in-ok-agree.ensures in (
+    let a = c.in_ok-agree.ensures in (
       a.0,
       a.1,
       record {
@@ -48,7 +48,7 @@ returns-then-bytes-ne0 g c =
 pub returns-else-bytes-ne0 : goal.returns-else-bytes-ne0
 returns-else-bytes-ne0 g c =
     let T = c.loop-i.invariant in
-    let a = c.in-ok-agree.ensures in (
+    let a = c.in_ok-agree.ensures in (
       a.0,
       a.1,
       record {
