@@ -1,4 +1,7 @@
 // What a form means: its pairs in a line, and the ends of a recording. Each function stands for the theorems that its contract cites.
+
+#![tactic(auto)]
+
 ghost use Rattle.form.specs.Lines.{EndsExist, EndsUnique};
 ghost use Rattle.form.specs.Meaning.{PairsInside};
 ghost use Rattle.form.specs.Positions.{PositionsAgree};

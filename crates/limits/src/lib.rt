@@ -1,5 +1,7 @@
 // The limits of the reader, each said once.
 
+#![tactic(auto)]
+
 // The heaviest form that is taken.
 pub const HEAVIEST: u32 = 1000;
 

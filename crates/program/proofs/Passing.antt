@@ -414,7 +414,7 @@ module _ (t : Streams) (b w : ℕ) (ins : ℕ → Bool) where
       pub behind : classes_at + n ≤ s
       pub within : s + stars F ≤ a
 
-    -- rows from `feedsAt` to the classes' end are none of those that are written
+    -- rows from `feeds_at` to the classes' end are none of those that are written
     ruled_put : (f : ℕ → List Bool) (r : ℕ) (v : List Bool) → (r < feeds_at) ⊎ (classes_at + n ≤ r) → Ruled t b w n f → Ruled t b w n (put f r v)
     ruled_put f r v (inl l) R = ruled_same f (put f r v) (λ i h u. put_other f r v i (λ e. omega arith)) R
     ruled_put f r v (inr l) R = ruled_same f (put f r v) (λ i h u. put_other f r v i (λ e. omega arith)) R

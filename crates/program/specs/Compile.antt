@@ -10,7 +10,7 @@ use Rattle.program.specs.declared.Step.TheVariants.{Take, Run, More, Keep, Save,
 use Rattle.program.specs.Machine.{Machine, repeated}
 use Rattle.program.specs.Numbered.{leaves, carries_of, Classed}
 
--- The rows of a program, by number: those below `feedsAt` keep the marks before a union, by its depth; then the line feeds, the line
+-- The rows of a program, by number: those below `feeds_at` keep the marks before a union, by its depth; then the line feeds, the line
 -- starts, the classes; then the stars' rows, and the rows in which unions gather.
 abbrev pub feeds_at : ℕ
 feeds_at = 16

@@ -1,5 +1,8 @@
 // Patterns as flat programs of steps over numbered rows and carries: what the steps do, the program of a pattern and of a form, and
 // that running it over a block gives the ends of the form's matches there. Each function stands for the theorems that its contract cites.
+
+#![tactic(auto)]
+
 ghost use Rattle.program.specs.Compile.{ProgramBlock, ProgramFits};
 ghost use Rattle.program.specs.Falls.{ProgramEnds, StepsFall};
 ghost use Rattle.program.specs.Matched.{FirstStanding, FormBlock, LineStarts};

@@ -49,7 +49,7 @@ abbrev pub Reach : Streams → (a : ℕ) (F : Pattern) → Carry F → (ℕ → 
 Reach t a F k M p = ((s : ℕ) × M s × Matches t F s p) ⊎ Cont t a F k p
 
 -- What a block's rows of marks can do. `step C k m` is the marks of m at bytes of C, one place on, with k at the block's first
--- place; `fall C m` is the bit that falls out. `run C k m` and `runFall C k m` are the same of any number of steps.
+-- place; `fall C m` is the bit that falls out. `run C k m` and `run_fall C k m` are the same of any number of steps.
 pub record Ops (Row : Type 0) : Type 0 where
   pub step : ℕ → Bool → Row → Row
   pub fall : ℕ → Row → Bool

@@ -1,4 +1,7 @@
 // The theory of matching block by block: each function stands for the theorems that its contract cites.
+
+#![tactic(auto)]
+
 ghost use Rattle.theory.specs.Block.{OneBlock};
 ghost use Rattle.theory.specs.Passes.{PassesEnd, PassesFall};
 ghost use Rattle.theory.specs.Shown.{ClosingBlocks, OpenBlocks};
