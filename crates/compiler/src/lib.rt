@@ -1,4 +1,7 @@
 // Takes the text of a character if its form is light enough to be compiled.
+
+#![tactic(auto)]
+
 ghost use Rattle.std.specs.Prelude.{◌≡◌, ◌≤◌, MatchResult};
 ghost use Rattle.compiler.specs.Faults.{Refused, Why};
 ghost use Rattle.compiler.specs.Limit.{heaviest};

@@ -1,10 +1,10 @@
 -- A text has no two verdicts. Assumes nothing.
-use Rattle.std.proofs.Common.{◌≡◌, ℕ, ◌+◌, ◌<◌, ◌≤◌, Bool, true, false, ◌⊎◌, List, [], ◌∷◌, ◌++◌, length, sym, refl, ap, ◌∙◌, subst, inl, inr, ⊎_elim, append_assoc, append-nil, arith}
-use Rattle.lexer.specs.Tokens.{Tok, opening, closing, word, quote, Lexes, Ends, Stray, Tokens}
+use Rattle.std.proofs.Common.{◌≡◌, ℕ, Bool, true, false, ◌⊎◌, List, [], ◌∷◌, ◌++◌, length, sym, ap, ◌∙◌, subst, inl, inr, ⊎_elim, append_assoc, append-nil, arith}
+use Rattle.lexer.specs.Tokens.{Tok, opening, word, Lexes, Ends, Stray, Tokens}
 use Rattle.lexer.proofs.Once.{lexes_once, lexes_no_end, lexes_no_stray, ends_no_stray, stray_once, Longer, compare_tokens}
 use Rattle.form.specs.Form.{Form}
 use Rattle.grammar.specs.Grammar.{Text}
-use Rattle.grammar.specs.Verdicts.{Begun, Before, Gives, NoToken, Misplaced, EndsEarly, Exceeds, Says, Settles, OneVerdict, Verdict, accepted, too_long, no_token, unexpected, bad_number, too_deep}
+use Rattle.grammar.specs.Verdicts.{Begun, Exceeds, Says, OneVerdict, Verdict, accepted, too_long, no_token, unexpected, bad_number, too_deep}
 use Rattle.grammar.proofs.Runs.{takes_loosely}
 use Rattle.grammar.proofs.Past.{past_text}
 use Rattle.grammar.proofs.Sound.{text_met}

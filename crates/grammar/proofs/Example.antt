@@ -1,7 +1,7 @@
 -- A worked example. Assumes nothing.
 use Rattle.std.proofs.Common.{◌≡◌, ℕ, zero, suc, ◌<◌, ◌≤◌, true, false, List, [], ◌∷◌, get_or, codes, refl, inl, arith}
 use Rattle.lexer.specs.declared.Class.TheVariants.{Space, Letter}
-use Rattle.lexer.specs.Tokens.{in_class, Run, Lexes, opening, closing, word}
+use Rattle.lexer.specs.Tokens.{in_class, Run, opening, closing, word}
 use Rattle.grammar.specs.Verdicts.{SeekAlone, unexpected}
 use Rattle.grammar.proofs.Wants.{Want, Takes, top, form, shut, opens, seeks, one, none}
 use Rattle.grammar.proofs.Refusals.{Refused}

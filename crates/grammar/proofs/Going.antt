@@ -1,17 +1,17 @@
 -- How a refusal further on is one from here, by the tokens that the code reads. Assumes nothing.
 -- Each call says that it keeps the text, so x, y and z are one.
-use Rattle.std.proofs.Common.{◌≡◌, ℕ, ◌+◌, ◌-◌, ◌<◌, ◌≤◌, Bool, true, false, ◌⊎◌, List, [], ◌∷◌, ◌++◌, length, Some, None, codes, Option, sym, refl, ap, ◌∙◌, subst, inl, inr, ⊎_elim, arith, Bor}
+use Rattle.std.proofs.Common.{◌≡◌, ℕ, ◌-◌, ◌<◌, ◌≤◌, Bool, true, false, ◌⊎◌, List, [], ◌∷◌, ◌++◌, length, Some, codes, Option, sym, refl, ap, ◌∙◌, subst, inl, inr, ⊎_elim, arith, Bor}
 use Rattle.lexer.specs.declared.Token.{Token}
 use Rattle.lexer.specs.declared.Token.TheVariants as token
-use Rattle.lexer.specs.Tokens.{Tok, opening, closing, word, quote, Lexes, Ends, Stray, Tokens, Next}
+use Rattle.lexer.specs.Tokens.{Tok, opening, closing, word, quote, Lexes, Stray, Tokens, Next}
 use Rattle.form.specs.Form.{Item}
 use Rattle.grammar.specs.Names.{name}
 use Rattle.grammar.specs.declared.Head.{Head}
 use Rattle.grammar.specs.Words.{item_of, number_of}
-use Rattle.grammar.specs.Grammar.{deepest, largest, Kept}
+use Rattle.grammar.specs.Grammar.{deepest, largest}
 use Rattle.grammar.specs.Verdicts.{Verdict, accepted, too_long, no_token, unexpected, bad_number, too_deep}
-use Rattle.grammar.proofs.Wants.{Want, top, seek, form, forms, heading, item, items, shut, least, most, after, Steps, opens, seeks, form_opens, form_quotes, forms_opens, forms_quotes, forms_closes, heads, item_reads, items_reads, items_closes, shuts, least_reads, most_reads, Takes, none, one, Wordy, Numeric}
-use Rattle.grammar.proofs.Refusals.{Stuck, Over, Fault, Refused}
+use Rattle.grammar.proofs.Wants.{Want, top, seek, form, forms, heading, item, items, shut, least, most, Steps, seeks, form_opens, form_quotes, forms_opens, forms_quotes, forms_closes, heads, item_reads, items_reads, items_closes, least_reads, most_reads, Takes, none, one, Wordy, Numeric}
+use Rattle.grammar.proofs.Refusals.{Stuck, Fault, Refused}
 
 at_once : {x : List ℕ} {p : ℕ} {σ : List Want} (v : Verdict) → Fault x p σ v → Refused x p σ v
 at_once v f = record { tokens = []; to = _; left = _; spans = refl; takes = none; fault = f }

@@ -1,14 +1,12 @@
 -- A refusal by the wants is one by the grammar. Assumes nothing.
-use Rattle.std.proofs.Common.{◌≡◌, ℕ, ◌+◌, ◌<◌, ◌≤◌, Bool, true, false, ◌⊎◌, List, [], ◌∷◌, ◌++◌, length, sym, refl, ap, ◌∙◌, subst, inl, inr, ⊎_elim, append_assoc, append-nil, arith}
-use Rattle.lexer.specs.Tokens.{Tok, opening, closing, word, quote, Lexes, Ends, Stray, Tokens}
-use Rattle.form.specs.Form.{Form}
-use Rattle.grammar.specs.Grammar.{Text}
-use Rattle.grammar.specs.Verdicts.{Begun, Before, Gives, NoToken, Misplaced, EndsEarly, Exceeds, Says, Verdict, accepted, too_long, no_token, unexpected, bad_number, too_deep}
+use Rattle.std.proofs.Common.{◌≡◌, ℕ, Bool, true, false, List, [], ◌∷◌, ◌++◌, sym, refl, subst, inl, inr, ⊎_elim, append_assoc, append-nil}
+use Rattle.lexer.specs.Tokens.{Tok, opening, word, Tokens}
+use Rattle.grammar.specs.Verdicts.{Begun, Before, Exceeds, Says, Verdict, accepted, too_long, no_token, unexpected, bad_number, too_deep}
 use Rattle.grammar.proofs.Wants.{Want, top, Takes, none, one}
 use Rattle.grammar.proofs.Runs.{takes_loosely, takes_on, takes_rest}
 use Rattle.grammar.proofs.Past.{past_text, completes}
 use Rattle.grammar.proofs.Sound.{text_met}
-use Rattle.grammar.proofs.Refusals.{Stuck, Over, Fault, Refused}
+use Rattle.grammar.proofs.Refusals.{Over, Fault, Refused}
 
 -- tokens that the wants take are the beginning of a text
 begun : (k : Bool) (ts : List Tok) (σ : List Want) → Takes k ts (top ∷ []) σ → Begun k ts

@@ -1,8 +1,8 @@
 -- Why a text cannot go on, by what is wanted there. Assumes nothing.
-use Rattle.std.proofs.Common.{◌≡◌, ℕ, ◌+◌, ◌-◌, ◌<◌, ◌≤◌, Bool, true, false, ◌⊎◌, List, [], ◌∷◌, ◌++◌, length, sym, refl, ap, ◌∙◌, subst, inl, inr, ⊎_elim, arith}
-use Rattle.lexer.specs.Tokens.{Tok, opening, closing, word, quote, Lexes, Ends, Stray, Tokens}
+use Rattle.std.proofs.Common.{◌≡◌, ℕ, Bool, true, false, ◌⊎◌, List, [], ◌∷◌, length}
+use Rattle.lexer.specs.Tokens.{Tok, opening, word, Lexes, Ends, Stray, Tokens}
 use Rattle.grammar.specs.Verdicts.{Verdict, accepted, too_long, no_token, unexpected, bad_number, too_deep}
-use Rattle.grammar.proofs.Wants.{Want, Steps, Takes, none, one}
+use Rattle.grammar.proofs.Wants.{Want, Takes}
 
 -- at s stands the token t, with which no wants go on
 pub record Stuck (k : Bool) (x : List ℕ) (q : ℕ) (σ : List Want) (t : Tok) (s : ℕ) : Type 0 where

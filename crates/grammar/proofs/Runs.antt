@@ -1,13 +1,11 @@
 -- How the stack of wants runs, and that it runs as the grammar says. Assumes nothing.
-use Rattle.std.proofs.Common.{◌≡◌, ℕ, zero, suc, ◌+◌, ◌-◌, ◌<◌, ◌≤◌, Bool, true, false, cond, eqb, ◌⊎◌, List, [], ◌∷◌, ◌++◌, length, Some, None, codes, sum, Option, sym, refl, ap, ◌∙◌, subst, ⊎_elim, arith}
-use Rattle.lexer.specs.Tokens.{Tok, opening, closing, word, quote}
-use Rattle.form.specs.Form.{Form, Forms, Item, quote as quoted, set, out, seq, or, star, rep, start, end, nil, cons}
-use Rattle.grammar.specs.Words.{item_of, number_of}
+use Rattle.std.proofs.Common.{◌≡◌, ℕ, ◌-◌, Bool, true, false, cond, eqb, List, [], ◌∷◌, ◌++◌, Some, None, sum, Option, sym, refl, ap, ◌∙◌, subst}
+use Rattle.lexer.specs.Tokens.{Tok}
 use Rattle.grammar.specs.Names.{name}
-use Rattle.grammar.specs.Grammar.{deepest, largest, Kept, Headed, ItemsAt, FormAt, FormsAt, Text}
+use Rattle.grammar.specs.Grammar.{largest}
 use Rattle.grammar.specs.declared.Head.{Head}
 use Rattle.grammar.specs.declared.Head.TheVariants.{Set, Out, Seq, Or, Star, Rep, Start, End}
-use Rattle.grammar.proofs.Wants.{Want, top, seek, form, forms, heading, item, items, shut, least, most, after, Steps, opens, seeks, form_opens, form_quotes, forms_opens, forms_quotes, forms_closes, heads, item_reads, items_reads, items_closes, shuts, least_reads, most_reads, Takes, none, one}
+use Rattle.grammar.proofs.Wants.{Want, most, after, Steps, opens, seeks, form_opens, form_quotes, forms_opens, forms_quotes, forms_closes, heads, item_reads, items_reads, items_closes, shuts, least_reads, most_reads, Takes, none, one}
 
 steps_loosely : {w : Want} {t : Tok} {ks : List Want} → Steps true w t ks → Steps false w t ks
 steps_loosely opens = opens

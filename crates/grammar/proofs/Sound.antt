@@ -1,13 +1,11 @@
 -- What the wants take, the grammar gives. Assumes nothing.
-use Rattle.std.proofs.Common.{◌≡◌, ℕ, zero, suc, ◌+◌, ◌-◌, ◌<◌, ◌≤◌, Bool, true, false, cond, eqb, ◌⊎◌, List, [], ◌∷◌, ◌++◌, length, Some, None, codes, sum, Option, sym, refl, ap, ◌∙◌, subst, ⊎_elim, arith}
-use Rattle.lexer.specs.Tokens.{Tok, opening, closing, word, quote}
+use Rattle.std.proofs.Common.{◌≡◌, ℕ, zero, suc, ◌+◌, ◌-◌, ◌<◌, ◌≤◌, Bool, true, false, List, [], ◌∷◌, length, Some, codes, refl, ap, ◌∙◌, subst, arith}
+use Rattle.lexer.specs.Tokens.{Tok, opening, closing, word}
 use Rattle.form.specs.Form.{Form, Forms, Item, quote as quoted, set, out, seq, or, star, rep, start, end, nil, cons}
 use Rattle.grammar.specs.Words.{item_of, number_of}
-use Rattle.grammar.specs.Names.{name}
 use Rattle.grammar.specs.Grammar.{deepest, largest, Kept, Headed, ItemsAt, FormAt, FormsAt, Text}
-use Rattle.grammar.specs.declared.Head.{Head}
 use Rattle.grammar.specs.declared.Head.TheVariants.{Set, Out, Seq, Or, Star, Rep, Start, End}
-use Rattle.grammar.proofs.Wants.{Want, top, seek, form, forms, heading, item, items, shut, least, most, after, Steps, opens, seeks, form_opens, form_quotes, forms_opens, forms_quotes, forms_closes, heads, item_reads, items_reads, items_closes, shuts, least_reads, most_reads, Takes, none, one}
+use Rattle.grammar.proofs.Wants.{Want, top, seek, form, forms, heading, item, items, shut, least, most, opens, seeks, form_opens, form_quotes, forms_opens, forms_quotes, forms_closes, heads, item_reads, items_reads, items_closes, shuts, least_reads, most_reads, Takes, none, one}
 
 -- the tokens ts begin with what the want w asks for, and us are left
 abbrev Met : Bool → Want → List Tok → List Tok → Type 0

@@ -1,4 +1,7 @@
 // The grammar of a character's text: what its words spell, and what follows from the grammar alone.
+
+#![tactic(auto)]
+
 ghost use Rattle.std.specs.Prelude.{◌≡◌, ◌-◌, ◌<◌, true, false, ◌&&◌, MatchOption, ◌≢◌};
 ghost use Rattle.grammar.specs.Names.{name};
 ghost use Rattle.grammar.specs.Verdicts.{SeekAlone};

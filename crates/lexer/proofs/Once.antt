@@ -1,10 +1,10 @@
 -- What stands at a place of a text stands there once. Assumes nothing.
-use Rattle.std.proofs.Common.{◌≡◌, ℕ, ◌+◌, ◌<◌, ◌≤◌, Bool, true, false, cond, eqb, ◌⊎◌, List, [], ◌∷◌, ◌++◌, length, get_or, sym, refl, ap, ◌∙◌, subst, inl, inr, ⊎_elim, arith}
+use Rattle.std.proofs.Common.{◌≡◌, ℕ, ◌+◌, ◌<◌, true, cond, eqb, ◌⊎◌, List, [], ◌∷◌, ◌++◌, length, get_or, sym, refl, ap, ◌∙◌, subst, inl, inr, ⊎_elim, arith}
 use Rattle.std.proofs.lemmas.Bool.{cases_order, both_ways}
 use Rattle.std.proofs.lemmas.Bool.Decides.{nat_tests}
 use Rattle.lexer.specs.declared.Class.{Class}
 use Rattle.lexer.specs.declared.Class.TheVariants.{Space, Letter, Quoted}
-use Rattle.lexer.specs.Tokens.{between, in_class, part, Run, Tok, opening, closing, word, quote, TokenAt, Lexes, Ends, Stray, EndAt, Tokens}
+use Rattle.lexer.specs.Tokens.{in_class, part, Run, Tok, opening, closing, word, quote, TokenAt, Lexes, Ends, Stray, EndAt, Tokens}
 
 no_later : (c : Class) (x : List ℕ) (a e f : ℕ) → Run c x a e → Run c x a f → e < f → ⊥
 no_later c x a e f r s h =

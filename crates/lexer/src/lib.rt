@@ -1,4 +1,7 @@
 // Cuts the text of a character into tokens.
+
+#![tactic(auto)]
+
 ghost use Rattle.std.specs.Prelude.{◌≡◌, ℕ, ◌+◌, ◌≤◌, length, MatchBool, MatchResult};
 ghost use Rattle.lexer.specs.Tokens.{EndAt, Lexes, Next, Run, Stray, closing, in_class};
 

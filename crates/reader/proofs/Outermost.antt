@@ -1,13 +1,11 @@
 -- A whole text, from its parts. Assumes nothing.
-use Rattle.std.proofs.Common.{◌≡◌, ℕ, ◌+◌, ◌<◌, ◌≤◌, true, List, [], ◌∷◌, codes, sym, refl, ap, ◌∙◌, subst, arith}
+use Rattle.std.proofs.Common.{◌≡◌, ℕ, List, [], ◌∷◌, codes, refl, ap, ◌∙◌, subst, arith}
 use Rattle.lexer.specs.declared.Token.{Token}
 use Rattle.lexer.specs.declared.Token.TheVariants as token
-use Rattle.lexer.specs.Tokens.{opening, closing, word, Lexes, Ends, Tokens, Next}
-use Rattle.form.specs.Form.{Form}
-use Rattle.grammar.specs.Grammar.{FormAt}
+use Rattle.lexer.specs.Tokens.{opening, word, Lexes, Ends, Tokens, Next}
 use Rattle.grammar.specs.Verdicts.{Verdict, Says, Gives}
 use Rattle.tree.specs.declared.store.Tree.{Tree}
-use Rattle.grammar.proofs.Wants.{Want, top, seek, form, shut, Takes, one, opens, seeks, shuts}
+use Rattle.grammar.proofs.Wants.{top, seek, form, shut, one, opens, seeks, shuts}
 use Rattle.grammar.proofs.Past.{past}
 use Rattle.grammar.proofs.Refusals.{Refused}
 use Rattle.grammar.proofs.Going.{on_token, beyond}

@@ -1,12 +1,11 @@
 -- What is read is made of its parts. Assumes nothing.
 -- Each call says that it keeps the text, so x, y and z are one.
-use Rattle.std.proofs.Common.{◌≡◌, ℕ, ◌+◌, ◌<◌, ◌≤◌, true, List, [], ◌∷◌, ◌++◌, map, length, Some, sym, refl, ap, ◌∙◌, subst, append_assoc, append-nil, arith, Bor}
+use Rattle.std.proofs.Common.{◌≡◌, ℕ, ◌+◌, ◌<◌, ◌≤◌, true, List, [], ◌∷◌, ◌++◌, map, length, sym, refl, ap, ◌∙◌, subst, append_assoc, arith, Bor}
 use Rattle.lexer.specs.declared.Token.{Token}
 use Rattle.lexer.specs.declared.Token.TheVariants as token
 use Rattle.lexer.specs.Tokens.{Tok, opening, closing, word, quote, Lexes, Tokens, Next}
-use Rattle.form.specs.Form.{Form, Forms, Item, quote as quoted, set, out, seq, or, star, rep, start, end, nil, cons}
-use Rattle.grammar.specs.Words.{item_of, number_of}
-use Rattle.grammar.specs.Grammar.{deepest, ItemsAt, FormAt, FormsAt}
+use Rattle.form.specs.Form.{quote as quoted, set, out, seq, or, star, rep, start, end, nil, cons}
+use Rattle.grammar.specs.Grammar.{deepest, FormAt, FormsAt}
 use Rattle.grammar.specs.Names.{name}
 use Rattle.grammar.specs.declared.Head.TheVariants as head
 use Rattle.tree.specs.declared.node.Node.{Node}
@@ -16,7 +15,7 @@ use Rattle.tree.proofs.Growing.{stands_more, grows_on, grows_same, grows_pushed,
 use Rattle.std.proofs.lemmas.List.{length_push, length-append, length-take, length-drop}
 use Rattle.tree.specs.declared.node.Range.{Range}
 use Rattle.tree.specs.declared.store.Tree.{Tree}
-use Rattle.tree.specs.Stands.{nodes_of, bytes_of, ranges_of, item, Holds, Stands, StandAll, Grows, Same, Pushed, Quoted, Ranged}
+use Rattle.tree.specs.Stands.{nodes_of, bytes_of, ranges_of, item, Pushed, Quoted}
 use Rattle.reader.specs.Reading.{Between, Room, Added, CountRead, CountsRead, ItemRead, ItemsRead, HeadedRead, FormRead, SingleRead, ListRead, SomeRead}
 
 -- the token that a pattern has found

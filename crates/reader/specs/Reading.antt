@@ -1,9 +1,9 @@
 -- What the parts of the reader have read; the contracts of its private functions cite this. Assumes nothing.
-use Rattle.std.specs.Prelude.{◌≡◌, ℕ, ◌+◌, ◌<◌, ◌≤◌, true, List, [], ◌∷◌, ◌++◌, map, length, Some}
+use Rattle.std.specs.Prelude.{◌≡◌, ℕ, ◌+◌, ◌<◌, ◌≤◌, true, List, ◌∷◌, ◌++◌, map, length, Some}
 use Rattle.form.specs.Form.{Form, Forms, cons}
 use Rattle.lexer.specs.Tokens.{Tok, opening, closing, word, Tokens}
 use Rattle.grammar.specs.Words.{item_of, number_of}
-use Rattle.grammar.specs.Grammar.{deepest, largest, Kept, ItemsAt, FormAt, FormsAt}
+use Rattle.grammar.specs.Grammar.{deepest, largest, ItemsAt, FormAt, FormsAt}
 use Rattle.tree.specs.declared.node.Node.{Node}
 use Rattle.tree.specs.declared.node.Range.{Range}
 use Rattle.tree.specs.declared.store.Tree.{Tree}

@@ -1,4 +1,7 @@
 // Reads the text of a character into a tree.
+
+#![tactic(auto)]
+
 ghost use Rattle.form.specs.Form.{Form};
 ghost use Rattle.grammar.specs.Verdicts.{OneVerdict, Settles, accepted};
 ghost use Rattle.reader.specs.Faults.{verdict};

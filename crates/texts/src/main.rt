@@ -1,4 +1,7 @@
 // Reads a table of texts and prints an account of it; then prints many random forms and reads them again.
+
+#![tactic(auto)]
+
 use crate::build::{bare, nested, padded, quoted};
 use crate::random::round_trips;
 use crate::render::render;

@@ -1,7 +1,7 @@
 -- What stands in a tree stands in it when it has grown. Assumes nothing.
-use Rattle.std.proofs.Common.{◌≡◌, ℕ, zero, suc, ◌+◌, ◌-◌, ◌<◌, ◌≤◌, min, true, List, [], ◌∷◌, ◌++◌, map, length, take, drop, Some, sym, refl, ap, ◌∙◌, subst, append_assoc, append-nil, arith}
+use Rattle.std.proofs.Common.{◌≡◌, ℕ, zero, suc, ◌+◌, ◌-◌, ◌<◌, ◌≤◌, true, List, [], ◌∷◌, ◌++◌, map, length, take, drop, Some, sym, refl, ap, ◌∙◌, append_assoc, append-nil, arith}
 use Rattle.std.specs.List.{slice_get}
-use Rattle.std.proofs.lemmas.List.{map-append, length-append, length-drop, drop-append-le, take-append-le, drop_all, take_all, length_push, drop_at, length-map}
+use Rattle.std.proofs.lemmas.List.{map-append, length-append, length-drop, drop-append-le, take-append-le, take_all, drop_at, length-map}
 use Rattle.std.proofs.lemmas.Bool.{lt-ltb, and_from}
 use Rattle.tree.specs.Nodes.{falls}
 use Rattle.form.specs.Form.{Form, Forms, Item, quote, set, out, seq, or, star, rep, start, end, nil, cons}
@@ -9,7 +9,7 @@ use Rattle.tree.specs.declared.node.Node.{Node}
 use Rattle.tree.specs.declared.node.Node.TheVariants as node
 use Rattle.tree.specs.declared.node.Range.{Range}
 use Rattle.tree.specs.declared.store.Tree.{Tree}
-use Rattle.tree.specs.Stands.{nodes_of, bytes_of, ranges_of, item, Piece, Pieces, At, Holds, StandAll, Stands, Grows, Same, Pushed, Quoted, Ranged}
+use Rattle.tree.specs.Stands.{nodes_of, bytes_of, ranges_of, item, Piece, Pieces, Holds, StandAll, Stands, Grows, Same, Pushed, Quoted}
 
 nth_more : {X : Type 0} (xs ys : List X) (i : ℕ) (x : X) → slice_get xs i ≡ Some x → slice_get (xs ++ ys) i ≡ Some x
 nth_more [] ys i x e = absurd (let z : ◌≡◌ {A = ℕ} 0 1 = cc in omega arith)

@@ -1,4 +1,7 @@
 // The worked examples of the meaning, from the text as it is written to the ends that it lists.
+
+#![tactic(auto)]
+
 ghost use Rattle.worked.specs.Worked.{WorkedExamples};
 
 // The examples of the crates below, and each text read by the grammar.

@@ -3,11 +3,11 @@ use Rattle.compiler.specs.Limit.{capped}
 use Rattle.compiler.proofs.Weighed.{found, found_row, none_stands, none_stand, quote_weighs, set_weighs, out_weighs, start_weighs, end_weighs, seq_weighs, or_weighs, star_weighs, rep_weighs, nil_weighs, cons_weighs, row_weighs, no_cons}
 use Rattle.compiler.proofs.weigh.+weight_weights.Goals as goal
 
-pub weight-returns-in-default : goal.weight-returns-in-default
-weight-returns-in-default t c = record { small = omega arith; value = λ f h. absurd (none_stands _ _ f c.in-default.ensures.value h) }
+pub weight-returns-in_default : goal.weight-returns-in_default
+weight-returns-in_default t c = record { small = omega arith; value = λ f h. absurd (none_stands _ _ f c.in_default.ensures.value h) }
 
 pub weight-returns-in-Quote : goal.weight-returns-in-Quote
-weight-returns-in-Quote t c = record { small = omega (arith, c.quoted.ensures); value = λ f h. c.quoted.ensures ∙ ap (λ v. capped (1 + v)) c.saturating-sub.ensures ∙ quote_weighs _ _ (found _ _ _ _ f c.in-Quote.is c.in-Some.ensures.value h) }
+weight-returns-in-Quote t c = record { small = omega (arith, c.quoted.ensures); value = λ f h. c.quoted.ensures ∙ ap (λ v. capped (1 + v)) c.saturating_sub.ensures ∙ quote_weighs _ _ (found _ _ _ _ f c.in-Quote.is c.in-Some.ensures.value h) }
 
 pub weight-returns-in-Set : goal.weight-returns-in-Set
 weight-returns-in-Set t c = record { small = omega arith; value = λ f h. set_weighs _ _ (found _ _ _ _ f c.in-Set.is c.in-Some.ensures.value h) }
@@ -39,13 +39,13 @@ weight-returns-in-Nil t c = record { small = omega arith; value = λ f h. absurd
 pub weight-returns-in-Cons : goal.weight-returns-in-Cons
 weight-returns-in-Cons t c = record { small = omega arith; value = λ f h. absurd (cons_weighs _ _ (found _ _ _ _ f c.in-Cons.is c.in-Some.ensures.value h)) }
 
-pub weights-returns-in-default : goal.weights-returns-in-default
-weights-returns-in-default t c = record { small = omega arith; value = λ fs h. absurd (none_stand _ _ fs c.in-default.ensures.value h) }
+pub weights-returns-in_default : goal.weights-returns-in_default
+weights-returns-in_default t c = record { small = omega arith; value = λ fs h. absurd (none_stand _ _ fs c.in_default.ensures.value h) }
 
 pub weights-returns-in-Cons : goal.weights-returns-in-Cons
 weights-returns-in-Cons t c =
     record { small = omega (arith, c.capped.ensures); value = λ fs h. c.capped.ensures ∙ row_weighs _ _ _ _ (found_row _ _ _ _ fs c.in-Cons.is c.in-Some.ensures.value h) c.weight.ensures.value c.weights.ensures.value }
 
-pub weights-returns-in-default-node : goal.weights-returns-in-default-node
-weights-returns-in-default-node t c =
-    record { small = omega arith; value = λ fs h. no_cons (found_row _ _ _ _ fs refl c.in-Some.ensures.value h) c.in-default-node.not-Cons }
+pub weights-returns-in_default-node : goal.weights-returns-in_default-node
+weights-returns-in_default-node t c =
+    record { small = omega arith; value = λ fs h. no_cons (found_row _ _ _ _ fs refl c.in-Some.ensures.value h) c.in_default-node.not-Cons }

@@ -5,5 +5,5 @@ use Rattle.reader.proofs.items.+items_some_items.Given as goal
 abbrev pub decreases-items : goal.decreases-items
 decreases-items l = 2 * (length (text_of l.lexer.now) - place_of l.lexer.now) + 1
 
-abbrev pub decreases-some-items : goal.decreases-some-items
-decreases-some-items l = 2 * (length (text_of l.lexer.now) - place_of l.lexer.now)
+abbrev pub decreases-some_items : goal.decreases-some_items
+decreases-some_items l = 2 * (length (text_of l.lexer.now) - place_of l.lexer.now)

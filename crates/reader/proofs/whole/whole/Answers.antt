@@ -6,37 +6,37 @@ use Rattle.reader.proofs.Exits.{exits}
 use Rattle.reader.proofs.Outermost.{at_first, after_open, after_seek, after_single, gives}
 use Rattle.reader.proofs.whole.whole.Goals as goal
 
-pub returns-in-err-open : goal.returns-in-err-open
-returns-in-err-open c =
-    exits _ _ _ _ c.from-residual.ensures.1
-    (at_first _ c.new-lexer.ensures.first c.new-lexer.ensures.whole (c.in-err-open.ensures.reads []))
+pub returns-in_err-open : goal.returns-in_err-open
+returns-in_err-open c =
+    exits _ _ _ _ c.from_residual.ensures.1
+    (at_first _ c.new-lexer.ensures.first c.new-lexer.ensures.whole (c.in_err-open.ensures.reads []))
 
-pub returns-in-err-w : goal.returns-in-err-w
-returns-in-err-w c =
-    exits _ _ _ _ c.from-residual-in-err-w.ensures.1
-    (after_open c.in-ok-open.ensures.reads c.new-lexer.ensures.first c.new-lexer.ensures.whole c.in-ok-open.ensures.same _ (c.in-err-w.ensures.reads seek [] seek_wordy))
+pub returns-in_err-w : goal.returns-in_err-w
+returns-in_err-w c =
+    exits _ _ _ _ c.from_residual-in_err-w.ensures.1
+    (after_open c.in_ok-open.ensures.reads c.new-lexer.ensures.first c.new-lexer.ensures.whole c.in_ok-open.ensures.same _ (c.in_err-w.ensures.reads seek [] seek_wordy))
 
-pub returns-in-default : goal.returns-in-default
-returns-in-default c =
-    after_open c.in-ok-open.ensures.reads c.new-lexer.ensures.first c.new-lexer.ensures.whole c.in-ok-open.ensures.same _
-    (refuse_word _ seek [] (no_seek _ c.in-default.ensures) refl c.in-ok-w.ensures.reads c.start.ensures)
+pub returns-in_default : goal.returns-in_default
+returns-in_default c =
+    after_open c.in_ok-open.ensures.reads c.new-lexer.ensures.first c.new-lexer.ensures.whole c.in_ok-open.ensures.same _
+    (refuse_word _ seek [] (no_seek _ c.in_default.ensures) refl c.in_ok-w.ensures.reads c.start.ensures)
 
-pub returns-in-err-part : goal.returns-in-err-part
-returns-in-err-part c =
-    exits _ _ _ _ c.from-residual-in-err-part.ensures.1
-    (after_seek c.in-ok-open.ensures.reads c.new-lexer.ensures.first c.new-lexer.ensures.whole c.in-ok-open.ensures.same c.in-ok-w.ensures.reads c.in-Some.ensures c.in-ok-w.ensures.same _ (c.in-err-part.ensures.reads []))
+pub returns-in_err-part : goal.returns-in_err-part
+returns-in_err-part c =
+    exits _ _ _ _ c.from_residual-in_err-part.ensures.1
+    (after_seek c.in_ok-open.ensures.reads c.new-lexer.ensures.first c.new-lexer.ensures.whole c.in_ok-open.ensures.same c.in_ok-w.ensures.reads c.in-Some.ensures c.in_ok-w.ensures.same _ (c.in_err-part.ensures.reads []))
 
-pub returns-in-err-next : goal.returns-in-err-next
-returns-in-err-next c =
-    exits _ _ _ _ c.from-residual-in-err-next.ensures.1
-    (after_single c.in-ok-open.ensures.reads c.new-lexer.ensures.first c.new-lexer.ensures.whole c.in-ok-open.ensures.same c.in-ok-w.ensures.reads c.in-Some.ensures c.in-ok-w.ensures.same c.in-ok-part.ensures.reads _ c.in-ok-part.ensures.same (stray_at [] refl c.in-err-next.ensures.token.0))
+pub returns-in_err-next : goal.returns-in_err-next
+returns-in_err-next c =
+    exits _ _ _ _ c.from_residual-in_err-next.ensures.1
+    (after_single c.in_ok-open.ensures.reads c.new-lexer.ensures.first c.new-lexer.ensures.whole c.in_ok-open.ensures.same c.in_ok-w.ensures.reads c.in-Some.ensures c.in_ok-w.ensures.same c.in_ok-part.ensures.reads _ c.in_ok-part.ensures.same (stray_at [] refl c.in_err-next.ensures.token.0))
 
 pub returns-in-End : goal.returns-in-End
 returns-in-End c =
-    let b = c.in-ok-part.ensures.reads in
-    (b.form, gives c.in-ok-open.ensures.reads c.new-lexer.ensures.first c.new-lexer.ensures.whole c.in-ok-open.ensures.same c.in-ok-w.ensures.reads c.in-Some.ensures c.in-ok-w.ensures.same b (start_of c.next.new.self) (place_of c.next.new.self) _ c.in-End.is c.in-ok-part.ensures.same c.in-ok-next.ensures.token, b.stands)
+    let b = c.in_ok-part.ensures.reads in
+    (b.form, gives c.in_ok-open.ensures.reads c.new-lexer.ensures.first c.new-lexer.ensures.whole c.in_ok-open.ensures.same c.in_ok-w.ensures.reads c.in-Some.ensures c.in_ok-w.ensures.same b (start_of c.next.new.self) (place_of c.next.new.self) _ c.in-End.is c.in_ok-part.ensures.same c.in_ok-next.ensures.token, b.stands)
 
-pub returns-in-default-2 : goal.returns-in-default-2
-returns-in-default-2 c =
-    after_single c.in-ok-open.ensures.reads c.new-lexer.ensures.first c.new-lexer.ensures.whole c.in-ok-open.ensures.same c.in-ok-w.ensures.reads c.in-Some.ensures c.in-ok-w.ensures.same c.in-ok-part.ensures.reads _ c.in-ok-part.ensures.same
-    (refuse_more _ _ _ _ _ _ _ refl c.in-ok-next.ensures.token c.start-in-default-2.ensures c.in-default-2.not-End)
+pub returns-in_default-2 : goal.returns-in_default-2
+returns-in_default-2 c =
+    after_single c.in_ok-open.ensures.reads c.new-lexer.ensures.first c.new-lexer.ensures.whole c.in_ok-open.ensures.same c.in_ok-w.ensures.reads c.in-Some.ensures c.in_ok-w.ensures.same c.in_ok-part.ensures.reads _ c.in_ok-part.ensures.same
+    (refuse_more _ _ _ _ _ _ _ refl c.in_ok-next.ensures.token c.start-in_default-2.ensures c.in_default-2.not-End)
