@@ -1,5 +1,5 @@
 -- Tables that grow by the sets of classes. Assumes nothing.
-use Rattle.std.proofs.Common.{◌≡◌, ℕ, zero, suc, ◌+◌, ◌-◌, ◌*◌, ◌<◌, ◌≤◌, Bool, true, false, cond, eqb, leb, List, [], ◌∷◌, ◌++◌, map, length, take, drop, sym, refl, ap, ◌∙◌, subst, append_assoc, append-nil, suc-mul, arith, length-append}
+use Rattle.std.proofs.Common.{◌≡◌, ℕ, zero, suc, ◌+◌, ◌-◌, ◌*◌, ◌≤◌, Bool, true, false, cond, eqb, leb, List, [], ◌∷◌, ◌++◌, map, length, take, drop, sym, refl, ap, ◌∙◌, subst, append_assoc, append-nil, suc-mul, arith, length-append}
 use Rattle.std.proofs.lemmas.Bool.{eqb-false}
 use Rattle.form.specs.Form.{Form, Forms, Item, quote, set, out, seq, or, star, rep, start, end, nil, cons, weight, weights}
 use Rattle.form.specs.Meaning.{inside, outside}
@@ -9,10 +9,10 @@ use Rattle.tree.specs.declared.node.Node.{Node}
 use Rattle.tree.specs.declared.node.Node.TheVariants as node
 use Rattle.tree.specs.declared.node.Range.{Range}
 use Rattle.tree.specs.declared.store.Tree.{Tree}
-use Rattle.tree.specs.Stands.{item, bytes_of, ranges_of, Piece, Pieces, StandAll, Stands}
+use Rattle.tree.specs.Stands.{item, bytes_of, ranges_of, Pieces, StandAll, Stands}
 use Rattle.stream.specs.declared.set.ByteSet.{ByteSet}
 use Rattle.classes.specs.Limit.{heaviest}
-use Rattle.classes.specs.Numbered.{sets_of, Is, Are, Added, Adds, Filled}
+use Rattle.classes.specs.Numbered.{sets_of, Is, Are, Adds, Filled}
 use Rattle.classes.specs.declared.table.ClassTable.{ClassTable}
 use Rattle.classes.proofs.Shapes.{Shape, a_quote, a_set, an_out, a_seq, an_or, a_star, a_rep, a_start, an_end, Row, no_form, a_form}
 

@@ -1,4 +1,7 @@
 // The classes of a form's leaves as sets of byte values, by number, in memory that is reserved once.
+
+#![tactic(auto)]
+
 mod listed;
 mod sets;
 mod table;

@@ -1,9 +1,8 @@
 -- How long a form's program is. Assumes nothing.
-use Rattle.std.proofs.Common.{◌≡◌, ℕ, zero, suc, ◌+◌, ◌-◌, ◌*◌, ◌<◌, ◌≤◌, Bool, true, false, cond, ◌&&◌, leb, List, [], ◌∷◌, ◌++◌, length, sym, refl, ap, ◌∙◌, subst, suc-mul, arith, length-append}
+use Rattle.std.proofs.Common.{◌≡◌, ℕ, zero, suc, ◌+◌, ◌-◌, ◌*◌, ◌≤◌, Bool, true, false, cond, ◌&&◌, leb, List, [], ◌∷◌, ◌++◌, length, sym, refl, ap, ◌∙◌, suc-mul, arith, length-append}
 use Rattle.std.proofs.lemmas.Bool.{leb-true}
 use Rattle.form.specs.Form.{Form, Forms, quote, set, out, seq, or, star, rep, start, end, nil, cons, weight, weights}
 use Rattle.theory.specs.Pattern.{Pattern, leaf, many, plus, eps, head, tail}
-use Rattle.theory.specs.Pattern
 use Rattle.theory.specs.Passes.{stars}
 use Rattle.theory.specs.Written.{classes, spelt, and_then, or_else, empty, stretch, loop, copies, up_to, pattern, in_order_of, one_of}
 use Rattle.program.specs.declared.Step.{Step}

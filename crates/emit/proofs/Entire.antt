@@ -1,22 +1,21 @@
 -- The program of a whole form. Assumes nothing.
-use Rattle.std.proofs.Common.{◌≡◌, ℕ, ◌+◌, ◌-◌, ◌*◌, ◌<◌, ◌≤◌, Bool, true, false, List, [], ◌∷◌, ◌++◌, length, None, sym, refl, ap, ◌∙◌, subst, arith}
+use Rattle.std.proofs.Common.{◌≡◌, ℕ, ◌+◌, ◌≤◌, false, [], length, None, refl, ap, subst, arith}
 use Rattle.form.specs.Form.{Form, weight}
 use Rattle.theory.specs.Pattern.{Pattern}
 use Rattle.theory.specs.Passes.{stars}
 use Rattle.theory.specs.Written.{classes, written, stretch}
 use Rattle.program.specs.Numbered.{leaves}
-use Rattle.program.specs.Compile.{stars_at, classes_at, steps, unions, program}
-use Rattle.program.specs.Sizes.{class_count, form_program, form_rows}
+use Rattle.program.specs.Compile.{stars_at, steps, unions}
+use Rattle.program.specs.Sizes.{class_count}
 use Rattle.program.proofs.Sizes.{form_rows_lem}
 use Rattle.classes.specs.Limit.{heaviest}
-use Rattle.emit.specs.Limit.{longest}
-use Rattle.emit.specs.Coding.{steps_of, top, Went, Writes}
+use Rattle.emit.specs.Coding.{steps_of, Went, Writes}
 use Rattle.emit.specs.Walking.{Walks}
 use Rattle.emit.specs.declared.code.Code.{Code}
 use Rattle.emit.specs.declared.place.Place.{Place}
 use Rattle.emit.proofs.Joining.{writes_at}
 use Rattle.emit.proofs.Walked.{stretch_none}
-use Rattle.emit.proofs.Bounded.{size, small, steps_long, leaves_few}
+use Rattle.emit.proofs.Bounded.{small, steps_long, leaves_few}
 
 -- a walk over the whole form, with stars' rows from the first behind its classes on
 pub whole : (F : Form) (r a : ℕ) (place : Place) (x y : Code) → weight F ≤ heaviest → place ≡ record { first = false; last = false; into = None; depth = 0 }

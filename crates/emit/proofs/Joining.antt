@@ -1,11 +1,11 @@
 -- The steps of patterns, from those of their parts. Assumes nothing.
 use Rattle.std.proofs.Common.{◌≡◌, ℕ, suc, ◌+◌, ◌≤◌, Bool, true, false, cond, List, [], ◌∷◌, ◌++◌, length, Some, None, Option, sym, refl, ap, ◌∙◌, subst, append_assoc, arith, length-append}
-use Rattle.theory.specs.Pattern.{Pattern, leaf, many, plus, eps, seq, alt, opt, star, head, tail}
+use Rattle.theory.specs.Pattern.{Pattern, leaf, plus, eps, seq, alt, opt, star}
 use Rattle.theory.specs.Passes.{stars}
 use Rattle.program.specs.declared.Step.{Step}
-use Rattle.program.specs.declared.Step.TheVariants.{Take, Run, More, Keep, Save, Load, Or, Grow}
+use Rattle.program.specs.declared.Step.TheVariants.{Take, Run, More, Save, Load, Or, Grow}
 use Rattle.program.specs.Numbered.{leaves}
-use Rattle.program.specs.Compile.{feeds_at, starts_at, classes_at, unions, unions_into, steps, into}
+use Rattle.program.specs.Compile.{classes_at, unions, unions_into, steps, into}
 use Rattle.emit.specs.Limit.{longest}
 use Rattle.emit.specs.Coding.{steps_of, top, Went, Does, code_of, own, Writes}
 use Rattle.emit.specs.declared.code.Code.{Code}

@@ -1,12 +1,11 @@
 -- What the patterns of forms are like, by the forms' nodes. Assumes nothing.
-use Rattle.std.proofs.Common.{◌≡◌, ℕ, zero, suc, ◌+◌, ◌-◌, ◌<◌, ◌≤◌, Bool, true, false, cond, ◌&&◌, ◌||◌, eqb, ltb, leb, List, [], ◌∷◌, length, take, drop, sym, refl, ap, ◌∙◌, subst, arith}
-use mathlib.Core.Bool.{and_true, or_false}
+use Rattle.std.proofs.Common.{◌≡◌, ℕ, zero, suc, ◌+◌, ◌-◌, ◌<◌, ◌≤◌, Bool, true, false, cond, ◌&&◌, ◌||◌, eqb, ltb, leb, List, [], ◌∷◌, length, sym, refl, ap, ◌∙◌, arith}
+use mathlib.Core.Bool.{and-true, or-false}
 use Rattle.std.proofs.lemmas.List.{length-take, length-drop}
 use Rattle.std.proofs.lemmas.Bool.Decides.{nat_tests}
 use Rattle.std.proofs.lemmas.Bool.{le-leb, lt-leb, eq-eqb, ne_eqb}
 use Rattle.form.specs.Form.{Form, Forms, rep, nil, cons}
 use Rattle.theory.specs.Pattern.{Pattern, leaf, many, plus, eps, head, tail}
-use Rattle.theory.specs.Pattern
 use Rattle.theory.specs.Written.{spelt, and_then, or_else, empty, loop, copies, up_to, pattern, in_order_of, one_of, classes}
 use Rattle.tree.specs.declared.node.Node.{Node}
 use Rattle.tree.specs.declared.node.Node.TheVariants as node
@@ -62,7 +61,7 @@ both_same false = refl
 
 pub copies_empty : (n : ℕ) (P : Pattern) → empty (copies n P) ≡ (eqb n 0 || empty P)
 copies_empty zero P = refl
-copies_empty (suc zero) P = and_true (empty P)
+copies_empty (suc zero) P = and-true (empty P)
 copies_empty (suc (suc n)) P =
     ap (λ b. empty P && b) (copies_empty (suc n) P ∙ ap (λ b. b || empty P) (ne_eqb (suc n) 0 (λ e. omega arith)))
     ∙ both_same (empty P) ∙ sym (ap (λ b. b || empty P) (ne_eqb (suc (suc n)) 0 (λ e. omega arith)))
@@ -101,7 +100,7 @@ module _ (c : ℕ) where
   repeated : (l m : ℕ) (g : Form) → l ≤ m → empty (pattern (rep l m g) c) ≡ (eqb l 0 || empty (pattern g c))
   repeated l m g h =
       ap (λ b. empty (cond b (Pattern.seq (copies l (pattern g c)) (up_to (m - l) (pattern g c))) (leaf c))) (le-leb l m h)
-      ∙ ap (λ b. empty (copies l (pattern g c)) && b) (up_to_empty (m - l) (pattern g c)) ∙ and_true (empty (copies l (pattern g c)))
+      ∙ ap (λ b. empty (copies l (pattern g c)) && b) (up_to_empty (m - l) (pattern g c)) ∙ and-true (empty (copies l (pattern g c)))
       ∙ copies_empty l (pattern g c)
 
   pub none_empties : {t : Tree} {f : Form} (l m i : ℕ) → Shape t f (node.Rep l m i) → l ≤ m → l ≡ 0 → true ≡ empty (pattern f c)
@@ -115,11 +114,11 @@ module _ (c : ℕ) where
       sym (ap (λ b. empty (cond b (Pattern.seq (copies l (pattern g c)) (up_to (m - l) (pattern g c))) (leaf c))) (lt-leb l m h))
 
   then_empty : (fs : Forms) (F G : Pattern) → (is_nil fs ≡ true → empty G ≡ true) → empty (and_then fs F G) ≡ (empty F && empty G)
-  then_empty nil F G h = sym (ap (λ b. empty F && b) (h refl) ∙ and_true (empty F))
+  then_empty nil F G h = sym (ap (λ b. empty F && b) (h refl) ∙ and-true (empty F))
   then_empty (cons f fs) F G h = refl
 
   else_empty : (fs : Forms) (F G : Pattern) → (is_nil fs ≡ true → empty G ≡ false) → empty (or_else fs F G) ≡ (empty F || empty G)
-  else_empty nil F G h = sym (ap (λ b. empty F || b) (h refl) ∙ or_false (empty F))
+  else_empty nil F G h = sym (ap (λ b. empty F || b) (h refl) ∙ or-false (empty F))
   else_empty (cons f fs) F G h = refl
 
   nil_true : (fs : Forms) (d : ℕ) → is_nil fs ≡ true → empty (in_order_of fs d) ≡ true

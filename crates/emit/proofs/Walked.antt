@@ -1,21 +1,19 @@
 -- What a walk over a form's nodes writes, from what it writes of the parts. Assumes nothing.
-use Rattle.std.proofs.Common.{◌≡◌, ℕ, zero, suc, ◌+◌, ◌-◌, ◌<◌, ◌≤◌, Bool, true, false, cond, ◌&&◌, ◌||◌, eqb, leb, List, [], ◌∷◌, ◌++◌, map, length, Some, None, Option, sym, refl, ap, ◌∙◌, subst, ⊎_elim, append-nil, arith, length-append}
-use mathlib.Core.Bool.{and_true}
+use Rattle.std.proofs.Common.{◌≡◌, ℕ, suc, ◌+◌, ◌-◌, ◌<◌, ◌≤◌, Bool, true, false, cond, ◌&&◌, ◌||◌, eqb, leb, List, [], ◌∷◌, length, Some, None, Option, sym, refl, ap, ◌∙◌, subst, ⊎_elim, append-nil, arith, length-append}
+use mathlib.Core.Bool.{and-true}
 use Rattle.std.proofs.lemmas.List.{length-map}
 use Rattle.std.proofs.lemmas.Bool.{cases_eq, le-leb, lt-leb, eq-eqb, ne_eqb}
 use Rattle.form.specs.Form.{Form, Forms, quote, set, out, seq, or, star, rep, start, end, nil, cons}
 use Rattle.form.specs.Positions.{only}
 use Rattle.theory.specs.Pattern.{Pattern, leaf, many, plus, eps, head, tail}
-use Rattle.theory.specs.Pattern
-use Rattle.theory.specs.Written.{nothing, or_nothing, classes, all_classes, spelt, and_then, or_else, empty, stretch, loop, copies, up_to, pattern, in_order_of, one_of}
-use Rattle.program.specs.declared.Step.{Step}
-use Rattle.program.specs.declared.Step.TheVariants.{Take, Run, More, Keep, Save, Load, Or, Grow}
+use Rattle.theory.specs.Written.{nothing, or_nothing, classes, all_classes, spelt, empty, stretch, loop, copies, up_to, pattern, in_order_of, one_of}
+use Rattle.program.specs.declared.Step.TheVariants.{Save, Load, Or, Grow}
 use Rattle.tree.specs.declared.node.Node.{Node}
 use Rattle.tree.specs.declared.node.Node.TheVariants as node
 use Rattle.tree.specs.declared.store.Tree.{Tree}
 use Rattle.tree.specs.Stands.{StandAll, Stands}
 use Rattle.classes.proofs.Shapes.{Shape, a_quote, a_set, an_out, a_seq, an_or, a_star, a_rep, a_start, an_end, Row, no_form, a_form}
-use Rattle.emit.specs.Coding.{steps_of, top, Went, Does, code_of, own, Writes}
+use Rattle.emit.specs.Coding.{steps_of, top, Does, Writes}
 use Rattle.emit.specs.Walking.{is_leaf, is_nil, Walks}
 use Rattle.emit.specs.declared.code.Code.{Code}
 use Rattle.emit.specs.declared.place.Place.{Place}
@@ -355,7 +353,7 @@ module _ (c r next : ℕ) (place p q : Place) (first skipped : Bool) (x y z : Co
       let A : Pattern = copies l P in
       let B : Pattern = up_to (m - l) P in
       let D : ℕ = place.depth in
-      let la : (place.last && empty B) ≡ place.last = ap (λ b. place.last && b) (up_to_empty (m - l) P) ∙ and_true place.last in
+      let la : (place.last && empty B) ≡ place.last = ap (λ b. place.last && b) (up_to_empty (m - l) P) ∙ and-true place.last in
       let fa : first ≡ (place.first && empty A) = fi ∙ ap (λ b. place.first && (eqb l 0 || b)) e ∙ ap (λ b. place.first && b) (sym (copies_empty l P)) in
       let core : Walks c (length (classes F)) r place (Pattern.seq A B) x z =
       (λ few.
@@ -427,7 +425,7 @@ module _ (c r old next left : ℕ) (place p q : Place) (skipped : Bool) (F : For
         let K = k few in
         let D : ℕ = place.depth in
         let R : Pattern = up_to n P in
-        let la : (place.last && empty R) ≡ place.last = ap (λ b. place.last && b) (up_to_empty n P) ∙ and_true place.last in
+        let la : (place.last && empty R) ≡ place.last = ap (λ b. place.last && b) (up_to_empty n P) ∙ and-true place.last in
         let v : Writes None D (stretch place.first (place.last && empty R) P) y z =
         subst (λ b. Writes None D (stretch place.first b P) y z) (sym la) (subst (λ s. Writes s.into s.depth (stretch s.first s.last P) y z) ps K.1) in
         let w : Writes (Some row) D (stretch (place.first && empty P) place.last R) z u =

@@ -1,4 +1,7 @@
 // Turns the form that a tree's node stands for into a flat program and its table of classes, in memory that is reserved once.
+
+#![tactic(auto)]
+
 mod code;
 mod compiled;
 mod place;

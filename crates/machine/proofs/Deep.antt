@@ -1,9 +1,9 @@
 -- Forms as the grammar gives them are no deeper than its bound, and ask for no more carries than they weigh. Assumes nothing.
-use Rattle.std.proofs.Common.{◌≡◌, ℕ, suc, ◌+◌, ◌*◌, ◌<◌, ◌≤◌, max, true, List, [], ◌∷◌, length, sym, ap, ◌∙◌, inl, inr, mul-le-mul_left, arith}
+use Rattle.std.proofs.Common.{◌≡◌, ℕ, ◌+◌, ◌≤◌, true, List, [], ◌∷◌, inl, inr, mul-le-mul_left, arith}
 use Rattle.lexer.specs.Tokens.{Tok}
-use Rattle.form.specs.Form.{Form, Forms, Item, quote, set, out, seq, or, star, rep, start, end, nil, cons, weight, weights}
+use Rattle.form.specs.Form.{Form, Forms, quote, set, out, seq, or, star, rep, start, end, nil, cons, weight, weights}
 use Rattle.grammar.specs.Grammar.{FormAt, FormsAt, Text, deepest}
-use Rattle.grammar.specs.Verdicts.{Settles, Verdict, accepted, too_long}
+use Rattle.grammar.specs.Verdicts.{Settles, accepted, too_long}
 use Rattle.theory.specs.Written.{written}
 use Rattle.program.specs.Numbered.{leaves}
 use Rattle.program.specs.Sizes.{brackets, widest, carried, all_carried, Proper, AllProper}

@@ -1,10 +1,10 @@
 -- The ends that a block shows come on behind those so far. Assumes nothing.
-use Rattle.std.proofs.Common.{◌≡◌, ℕ, ◌+◌, ◌-◌, ◌<◌, ◌≤◌, Bool, false, T, ◌↔◌, List, [], ◌++◌, length, sym, refl, ap, ◌∙◌, subst, arith, length-append}
+use Rattle.std.proofs.Common.{◌≡◌, ℕ, ◌+◌, ◌-◌, ◌<◌, ◌≤◌, Bool, T, ◌↔◌, List, [], ◌++◌, length, sym, refl, ap, ◌∙◌, subst, arith, length-append}
 use Rattle.std.proofs.lemmas.List.{append-nil}
 use Rattle.block.specs.Rows.{bit}
 use Rattle.form.specs.Form.{Form}
 use Rattle.form.specs.Lines.{Place}
-use Rattle.form.specs.Positions.{tape, Holds, Ending, place_at}
+use Rattle.form.specs.Positions.{tape, Ending, place_at}
 use Rattle.form.specs.Running.{EarlyEnds, places_from}
 use Rattle.form.proofs.Running.{early_next, early_positions}
 use Rattle.form.proofs.Tapes.{place_agree}

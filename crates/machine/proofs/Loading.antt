@@ -1,5 +1,5 @@
 -- A form that was read and compiled fits. Assumes nothing.
-use Rattle.std.proofs.Common.{◌≡◌, ℕ, ◌+◌, ◌≤◌, true, List, [], length, sym, refl, ap, ◌∙◌, subst, arith}
+use Rattle.std.proofs.Common.{◌≡◌, ◌+◌, ◌≤◌, true, List, [], length, sym, ◌∙◌, subst, arith}
 use Rattle.stream.specs.declared.set.ByteSet.{ByteSet}
 use Rattle.limits.specs.Limits.{heaviest}
 use Rattle.form.specs.Form.{Form, weight}
@@ -7,7 +7,7 @@ use Rattle.theory.specs.Passes.{stars}
 use Rattle.theory.specs.Written.{written}
 use Rattle.program.specs.Numbered.{leaves}
 use Rattle.program.specs.Compile.{classes_at, stars_at, feeds_at}
-use Rattle.program.specs.Sizes.{brackets, class_count, form_program, form_rows}
+use Rattle.program.specs.Sizes.{brackets, class_count, form_program}
 use Rattle.program.proofs.Sizes.{form_rows_lem}
 use Rattle.classes.specs.Numbered.{Are}
 use Rattle.classes.proofs.Adding.{are_long}

@@ -1,27 +1,25 @@
 -- A block with its rows is ready, and what it then shows. Assumes nothing.
-use Rattle.std.proofs.Common.{◌≡◌, ℕ, zero, suc, ◌+◌, ◌-◌, ◌^◌, ◌<◌, ◌≤◌, Bool, true, false, ◌&&◌, T, eqb, ltb, ◌↔◌, List, [], ◌∷◌, ◌++◌, length, get_or, replicate, vec_items, sym, refl, ap, ◌∙◌, subst, arith, length-append, get_or-append-add}
+use Rattle.std.proofs.Common.{◌≡◌, ℕ, zero, suc, ◌+◌, ◌-◌, ◌<◌, ◌≤◌, Bool, true, false, ◌&&◌, T, eqb, ltb, List, [], ◌∷◌, ◌++◌, length, get_or, replicate, vec_items, sym, refl, ap, ◌∙◌, subst, arith, length-append, get_or-append-add}
 use native.Mathlib.Decide.{dec_lt}
 use lib.ListN.{get_or-append}
-use Rattle.std.proofs.lemmas.List.{get_or_past}
 use Rattle.std.proofs.lemmas.Bool.{lt-ltb, le-ltb}
 use Rattle.block.specs.Rows.{bit, tab}
-use Rattle.block.specs.Calls.{and_row, enters, Advance}
+use Rattle.block.specs.Calls.{and_row, enters}
 use Rattle.block.proofs.Rows.{bit_at, bit_past, tab_ext}
 use Rattle.form.specs.Form.{Form}
 use Rattle.form.specs.Meaning.{feed}
-use Rattle.form.specs.Lines.{Place, IsEnd}
-use Rattle.form.specs.Positions.{opens, tape, Holds, Ending, place_at}
+use Rattle.form.specs.Positions.{opens, tape, Holds}
 use Rattle.form.proofs.Running.{early_positions}
 use Rattle.form.proofs.Tapes.{place_agree}
 use Rattle.stream.specs.Sets.{has}
 use Rattle.stream.specs.declared.set.ByteSet.{ByteSet}
 use Rattle.theory.specs.Block.{class_row, start_row, feed_row}
-use Rattle.theory.specs.Written.{nothing, classes, streams, written}
-use Rattle.program.specs.Compile.{classes_at, starts_at, feeds_at, stars_at, Ruled}
+use Rattle.theory.specs.Written.{nothing, classes, streams}
+use Rattle.program.specs.Compile.{classes_at, stars_at}
 use Rattle.program.specs.Matched.{Standing}
 use Rattle.program.specs.Sizes.{class_count}
 use Rattle.program.proofs.Matched.{first_standing, line_starts}
-use Rattle.classes.specs.Numbered.{Is, Are}
+use Rattle.classes.specs.Numbered.{Are}
 use Rattle.classes.proofs.Adding.{are_long}
 use Rattle.emit.specs.Whole.{CompiledFrom, program_of, table_of}
 use Rattle.machine.specs.Blocks.{Ready, Found}

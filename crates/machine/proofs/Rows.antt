@@ -1,5 +1,5 @@
 -- The rows that a block is made ready with. Assumes nothing.
-use Rattle.std.proofs.Common.{◌≡◌, ℕ, ◌+◌, ◌-◌, ◌^◌, ◌<◌, ◌≤◌, Bool, true, false, ◌||◌, eqb, List, length, get_or, set, sym, refl, ap, ◌∙◌, subst, arith, length-set}
+use Rattle.std.proofs.Common.{◌≡◌, ℕ, ◌+◌, ◌-◌, ◌^◌, ◌<◌, ◌≤◌, Bool, true, false, ◌||◌, eqb, List, length, get_or, set, refl, ap, ◌∙◌, subst, arith, length-set}
 use native.Mathlib.Decide.{dec_lt}
 use Rattle.block.specs.Rows.{bit, tab}
 use Rattle.block.specs.Calls.{enters, Advance}

@@ -1,5 +1,5 @@
 -- The rows that a block is made ready with. Assumes nothing.
-use Rattle.std.specs.Prelude.{◌≡◌, ℕ, ◌+◌, ◌-◌, ◌<◌, Bool, List, length, slice_index, slice_index_or}
+use Rattle.std.specs.Prelude.{◌≡◌, ℕ, ◌+◌, ◌<◌, Bool, List, length, slice_index, slice_index_or}
 use Rattle.block.specs.Rows.{bit, tab}
 use Rattle.block.specs.Calls.{enters}
 use Rattle.stream.specs.Sets.{has}

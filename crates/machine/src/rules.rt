@@ -25,8 +25,8 @@ const FEED: u8 = 0x0A;
 // The row of each class, from the bytes that the first eight blocks hold.
 fn classify<B: Block>(blocks: &mut [B], sets: &[ByteSet]) -> Result<(), Refusal>
     requires { classes_at + length sets.now ≤ length blocks.old }
-    ensures classes { MatchResult result (λ _. (c : ℕ) → c < length sets.now → rows row blocks.new (classes_at + c) ≡ tab places (λ i. has (slice_index_or sets.now c no_set) (held (rows row blocks.old) i))) (λ _. ⊥) }
-    ensures others { (i : ℕ) → i < classes_at → rows row blocks.new i ≡ rows row blocks.old i }
+    ensures classes { MatchResult result (λ _. (c : ℕ) → c < length sets.now → rows B.Block.row blocks.new (classes_at + c) ≡ tab B.places (λ i. has (slice_index_or sets.now c no_set) (held (rows B.Block.row blocks.old) i))) (λ _. ⊥) }
+    ensures others { (i : ℕ) → i < classes_at → rows B.Block.row blocks.new i ≡ rows B.Block.row blocks.old i }
 {
     for (c, set) in sets.iter().enumerate() {
         let row = class(blocks, *set)?;
@@ -44,8 +44,8 @@ pub(crate) fn rule<B: Block>(
     blocks: &mut [B],
 ) -> Result<(B, bool), Refusal>
     requires room { classes_at + length sets.now ≤ length blocks.old }
-    requires fit { length bytes.now ≤ answered places }
-    ensures { MatchResult result (λ x. Rules places bytes.now start sets.now (rows row blocks.new) × (row x.0 ≡ feeds_of places bytes.now) × (x.1 ≡ bit (feeds_of places bytes.now) (places - 1))) (λ _. ⊥) }
+    requires fit { length bytes.now ≤ answered B.places }
+    ensures { MatchResult result (λ x. Rules B.places bytes.now start sets.now (rows B.Block.row blocks.new) × (B.Block.row x.0 ≡ feeds_of B.places bytes.now) × (x.1 ≡ bit (feeds_of B.places bytes.now) (B.places - 1))) (λ _. ⊥) }
 {
     transpose(bytes, blocks)?;
     let feeds = class(blocks, ByteSet::none().with(FEED))?;

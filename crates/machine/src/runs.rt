@@ -24,12 +24,12 @@ pub(crate) fn run_block<B: Block>(
     ins: &[bool],
     carries: &mut [bool],
 ) -> B
-    requires seen { places ≤ widest }
+    requires seen { B.places ≤ widest }
     requires range { Each (Within (length registers.old.blocks.now) (length ins.now) from to) program.now }
     requires order { from ≤ to }
     requires within { to ≤ length registers.old.blocks.now }
     requires long { length carries.old ≡ length ins.now }
-    ensures found { (F : Form) (t : ℕ → ℕ) (b : ℕ) → Ready F t b places program.now from to (rows row registers.old.blocks.now) (bit ins.now) → Found F t b places (row result) (bit carries.new) }
+    ensures found { (F : Form) (t : ℕ → ℕ) (b : ℕ) → Ready F t b B.places program.now from to (rows B.Block.row registers.old.blocks.now) (bit ins.now) → Found F t b B.places (B.Block.row result) (bit carries.new) }
     ensures long { length registers.new.blocks.now ≡ length registers.old.blocks.now }
     ensures lender { registers.new.blocks.ghost_name ≡ registers.old.blocks.ghost_name }
 {

@@ -19,8 +19,8 @@ use stream::match_star;
 fn take<B: Block>(marks: B, class: B, k: usize, ins: &[bool], carries: &mut [bool]) -> B
     requires range { k < length ins.now }
     requires long { length carries.old ≡ length ins.now }
-    ensures marks { row result ≡ step_row places (row class) (slice_index_or ins.now k false) (row marks) }
-    ensures carries { carries.new ≡ slice_set carries.old k (step_out places (row class) (row marks)) }
+    ensures marks { B.Block.row result ≡ step_row B.places (B.Block.row class) (slice_index_or ins.now k false) (B.Block.row marks) }
+    ensures carries { carries.new ≡ slice_set carries.old k (step_out B.places (B.Block.row class) (B.Block.row marks)) }
 {
     let (next, fallen) = marks.and(class).advance(ins[k]);
     carries[k] = fallen;
@@ -31,8 +31,8 @@ fn take<B: Block>(marks: B, class: B, k: usize, ins: &[bool], carries: &mut [boo
 fn run<B: Block>(marks: B, class: B, k: usize, ins: &[bool], carries: &mut [bool]) -> B
     requires range { k < length ins.now }
     requires long { length carries.old ≡ length ins.now }
-    ensures marks { row result ≡ star_row places (row marks) (row class) (slice_index_or ins.now k false) }
-    ensures carries { carries.new ≡ slice_set carries.old k (star_out places (row marks) (row class) (slice_index_or ins.now k false)) }
+    ensures marks { B.Block.row result ≡ star_row B.places (B.Block.row marks) (B.Block.row class) (slice_index_or ins.now k false) }
+    ensures carries { carries.new ≡ slice_set carries.old k (star_out B.places (B.Block.row marks) (B.Block.row class) (slice_index_or ins.now k false)) }
 {
     let (next, out) = match_star(marks, class, ins[k]);
     carries[k] = out;
@@ -43,8 +43,8 @@ fn run<B: Block>(marks: B, class: B, k: usize, ins: &[bool], carries: &mut [bool
 fn more<B: Block>(marks: B, class: B, k: usize, ins: &[bool], carries: &mut [bool]) -> B
     requires range { k < length ins.now }
     requires long { length carries.old ≡ length ins.now }
-    ensures marks { row result ≡ star_row places (step_row places (row class) (slice_index_or ins.now k false) (row marks)) (row class) false }
-    ensures carries { carries.new ≡ slice_set carries.old k (step_out places (row class) (row marks) || star_out places (step_row places (row class) (slice_index_or ins.now k false) (row marks)) (row class) false) }
+    ensures marks { B.Block.row result ≡ star_row B.places (step_row B.places (B.Block.row class) (slice_index_or ins.now k false) (B.Block.row marks)) (B.Block.row class) false }
+    ensures carries { carries.new ≡ slice_set carries.old k (step_out B.places (B.Block.row class) (B.Block.row marks) || star_out B.places (step_row B.places (B.Block.row class) (slice_index_or ins.now k false) (B.Block.row marks)) (B.Block.row class) false) }
 {
     let (once, fallen) = marks.and(class).advance(ins[k]);
     let (next, out) = match_star(once, class, false);
@@ -55,17 +55,17 @@ fn more<B: Block>(marks: B, class: B, k: usize, ins: &[bool], carries: &mut [boo
 
 // Whether two blocks differ: the interface has no test for equality, and `first` sees every place of a kind that answers its own width.
 fn differ<B: Block>(left: B, right: B) -> bool
-    requires { places ≤ widest }
-    ensures { result ≡ not (same (row left) (row right)) }
+    requires { B.places ≤ widest }
+    ensures { result ≡ not (same (B.Block.row left) (B.Block.row right)) }
 {
     left.xor(right).first(0).is_some()
 }
 
 // The marks added to a star's row, and whether that changes it.
 fn grow<B: Block>(old: B, marks: B) -> (B, bool)
-    requires { places ≤ widest }
-    ensures joined { row result.0 ≡ or_row places (row old) (row marks) }
-    ensures grown { result.1 ≡ not (same (or_row places (row old) (row marks)) (row old)) }
+    requires { B.places ≤ widest }
+    ensures joined { B.Block.row result.0 ≡ or_row B.places (B.Block.row old) (B.Block.row marks) }
+    ensures grown { result.1 ≡ not (same (or_row B.places (B.Block.row old) (B.Block.row marks)) (B.Block.row old)) }
 {
     let new = old.or(marks);
     (new, differ(new, old))
@@ -80,10 +80,10 @@ pub(crate) fn act<B: Block>(
     ins: &[bool],
     carries: &mut [bool],
 ) -> (B, bool)
-    requires seen { places ≤ widest }
+    requires seen { B.places ≤ widest }
     requires range { (s : ℕ) × (e : ℕ) × Within (length registers.old.blocks.now) (length ins.now) s e step }
     requires long { length carries.old ≡ length ins.now }
-    ensures does { holding row result.0 registers.new.blocks.now carries.new result.1 ≡ does places (bit ins.now) step (holding row marks registers.old.blocks.now carries.old changed) }
+    ensures does { holding B.Block.row result.0 registers.new.blocks.now carries.new result.1 ≡ does B.places (bit ins.now) step (holding B.Block.row marks registers.old.blocks.now carries.old changed) }
     ensures long { length registers.new.blocks.now ≡ length registers.old.blocks.now }
     ensures lender { registers.new.blocks.ghost_name ≡ registers.old.blocks.ghost_name }
 {
@@ -132,10 +132,10 @@ fn pass<B: Block>(
     ins: &[bool],
     carries: &mut [bool],
 ) -> (B, bool)
-    requires seen { places ≤ widest }
+    requires seen { B.places ≤ widest }
     requires range { (s : ℕ) × (e : ℕ) × Each (Within (length registers.old.blocks.now) (length ins.now) s e) program.now }
     requires long { length carries.old ≡ length ins.now }
-    ensures runs { holding row result.0 registers.new.blocks.now carries.new result.1 ≡ runs places (bit ins.now) program.now (holding row marks registers.old.blocks.now carries.old false) }
+    ensures runs { holding B.Block.row result.0 registers.new.blocks.now carries.new result.1 ≡ runs B.places (bit ins.now) program.now (holding B.Block.row marks registers.old.blocks.now carries.old false) }
     ensures long { length registers.new.blocks.now ≡ length registers.old.blocks.now }
     ensures lender { registers.new.blocks.ghost_name ≡ registers.old.blocks.ghost_name }
 {
@@ -158,12 +158,12 @@ pub(crate) fn settle<B: Block>(
     ins: &[bool],
     carries: &mut [bool],
 ) -> B
-    requires seen { places ≤ widest }
+    requires seen { B.places ≤ widest }
     requires range { Each (Within (length registers.old.blocks.now) (length ins.now) from to) program.now }
     requires order { from ≤ to }
     requires within { to ≤ length registers.old.blocks.now }
     requires long { length carries.old ≡ length ins.now }
-    ensures settled { (j : ℕ) × (holding row result registers.new.blocks.now carries.new false ≡ repeated places (bit ins.now) program.now (row marks) (holding row marks registers.old.blocks.now carries.old false) j) }
+    ensures settled { (j : ℕ) × (holding B.Block.row result registers.new.blocks.now carries.new false ≡ repeated B.places (bit ins.now) program.now (B.Block.row marks) (holding B.Block.row marks registers.old.blocks.now carries.old false) j) }
     ensures long { length registers.new.blocks.now ≡ length registers.old.blocks.now }
     ensures lender { registers.new.blocks.ghost_name ≡ registers.old.blocks.ghost_name }
 {
@@ -179,8 +179,8 @@ pub(crate) fn settle<B: Block>(
 pub(crate) fn clear<B: Block>(registers: &mut Registers<'_, B>, from: usize, to: usize)
     requires order { from ≤ to }
     requires within { to ≤ length registers.old.blocks.now }
-    ensures emptied { (i : ℕ) → from ≤ i → i < to → rows row registers.new.blocks.now i ≡ none_row places }
-    ensures others { (i : ℕ) → (i < from) ⊎ (to ≤ i) → rows row registers.new.blocks.now i ≡ rows row registers.old.blocks.now i }
+    ensures emptied { (i : ℕ) → from ≤ i → i < to → rows B.Block.row registers.new.blocks.now i ≡ none_row B.places }
+    ensures others { (i : ℕ) → (i < from) ⊎ (to ≤ i) → rows B.Block.row registers.new.blocks.now i ≡ rows B.Block.row registers.old.blocks.now i }
     ensures long { length registers.new.blocks.now ≡ length registers.old.blocks.now }
     ensures lender { registers.new.blocks.ghost_name ≡ registers.old.blocks.ghost_name }
 {

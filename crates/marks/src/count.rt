@@ -1,9 +1,10 @@
 // Where the counting of lines stands.
-ghost use Rattle.std.specs.Prelude.{◌+◌, ◌≤◌};
+ghost use Rattle.std.specs.Prelude.{◌≡◌, ◌+◌, ◌≤◌, ⊤};
 ghost use Rattle.block.specs.Calls.{widest};
 ghost use Rattle.marks.specs.Bounds.{farthest};
 
 use limits::LONGEST_RECORDING;
+use std::alloc::AllocError;
 
 mod listing;
 mod walk;
@@ -14,7 +15,6 @@ pub use crate::count::listing::list_block;
 pub const FARTHEST: usize = LONGEST_RECORDING + 65_528;
 
 // Lines are counted by the line feeds of one block after the other.
-#[derive(Clone, Copy)]
 pub struct Lines<B> {
     // The block's line feeds.
     feeds: B,
@@ -31,3 +31,15 @@ pub struct Lines<B> {
     ghost counted: { number ≤ base + at + 1 },
     ghost begun: { start ≤ base + at },
 }
+
+impl<B: Copy> Clone for Lines<B> {
+    ghost is_clone = { λ x y. y ≡ x };
+
+    ghost is_infallible = { λ _. ⊤ };
+
+    fn clone(&self) -> Result<Lines<B>, AllocError> {
+        Ok(*self)
+    }
+}
+
+impl<B: Copy> Copy for Lines<B> {}

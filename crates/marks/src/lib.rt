@@ -1,4 +1,7 @@
 // Blocks of marks, and the ends that they stand for, drawn in order with their lines and columns.
+
+#![tactic(auto)]
+
 mod count;
 mod line;
 mod ones;

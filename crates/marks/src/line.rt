@@ -16,13 +16,13 @@ pub(crate) struct Line {
 // The line of place `to`, from that of place `from`: one more for each line feed between. Place 0 stands at `base`.
 pub(crate) fn pass<B: Block>(line: Line, feeds: B, base: usize, from: usize, to: usize) -> Line
     requires order { from ≤ to }
-    requires seen { to ≤ answered places }
+    requires seen { to ≤ answered B.places }
     requires far { base ≤ farthest }
     requires number { line.number ≤ base + from + 1 }
     requires start { line.start ≤ base + from }
     ensures number { result.number ≤ base + to + 1 }
     ensures start { result.start ≤ base + to }
-    ensures counts { (t : ℕ → ℕ) → FeedsAt t base to (row feeds) → Counted t line (base + from) → Counted t result (base + to) }
+    ensures counts { (t : ℕ → ℕ) → FeedsAt t base to (B.Block.row feeds) → Counted t line (base + from) → Counted t result (base + to) }
 {
     let mut line = line;
     let mut at = from;

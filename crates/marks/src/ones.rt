@@ -7,16 +7,16 @@ use block::Block;
 
 // A one at place `p` and nowhere else; all zeros where `p` is not below the answered width.
 pub fn one<B: Block>(p: usize) -> B
-    ensures within { p < answered places → row result ≡ tab places (λ i. nat_eq i p) }
-    ensures past { answered places ≤ p → row result ≡ none_row places }
+    ensures within { p < answered B.places → B.Block.row result ≡ tab B.places (λ i. nat_eq i p) }
+    ensures past { answered B.places ≤ p → B.Block.row result ≡ none_row B.places }
 {
     B::none().put(p / 8, 1 << (p % 8))
 }
 
 // Ones at the places below `n`, and below the answered width.
 pub fn below<B: Block>(n: usize) -> B
-    ensures within { row result ≡ tab places (λ i. nat_lt i (min n (answered places))) }
-    ensures whole { places ≤ widest → row result ≡ tab places (λ i. nat_lt i n) }
+    ensures within { B.Block.row result ≡ tab B.places (λ i. nat_lt i (min n (answered B.places))) }
+    ensures whole { B.places ≤ widest → B.Block.row result ≡ tab B.places (λ i. nat_lt i n) }
 {
     let end = n.min(B::width());
     let mut ones = B::none();

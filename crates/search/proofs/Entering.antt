@@ -1,24 +1,23 @@
 -- What becomes of bytes that enter a search. Assumes nothing.
-use Rattle.std.proofs.Common.{◌≡◌, ℕ, zero, suc, ◌+◌, ◌-◌, ◌*◌, ◌%◌, ◌<◌, ◌≤◌, Bool, true, false, cond, T, eqb, ◌⊎◌, List, [], ◌∷◌, ◌++◌, length, get_or, take, drop, Ok, Err, vec_items, Result, sym, refl, ap, ◌∙◌, subst, inl, inr, append_assoc, mod-eq_of_lt, zero-add, arith, length-append, length-drop, length-take, take_all, get_or-append-add, take-add}
+use Rattle.std.proofs.Common.{◌≡◌, ℕ, zero, suc, ◌+◌, ◌-◌, ◌%◌, ◌<◌, ◌≤◌, Bool, true, false, cond, eqb, List, [], ◌∷◌, ◌++◌, length, get_or, take, drop, Ok, Err, vec_items, Result, sym, refl, ap, ◌∙◌, subst, inl, append_assoc, mod-eq_of_lt, zero-add, arith, length-append, length-drop, length-take, take_all, get_or-append-add, take-add}
 use native.Mathlib.Decide.{dec_lt}
 use native.Mathlib.Nat.{mod-add-mod}
-use lib.ListN.{get_or-append}
 use lib.Seq.{paste}
 use Rattle.std.proofs.lemmas.List.Edits.{take-paste}
 use Rattle.std.proofs.lemmas.List.{append-nil}
 use Rattle.std.proofs.lemmas.Bool.{false≢true, eq-eqb, or_left}
-use Rattle.limits.specs.Limits.{widest_kind, longest_recording, need}
+use Rattle.limits.specs.Limits.{longest_recording, need}
 use Rattle.form.specs.Form.{Form, weight}
 use Rattle.form.specs.Meaning.{feed}
-use Rattle.form.specs.Lines.{Place, IsEnd, Has}
+use Rattle.form.specs.Lines.{Place, Has}
 use Rattle.form.specs.Positions.{opens, tape, closed}
-use Rattle.form.specs.Running.{EarlyEnds, places_from}
+use Rattle.form.specs.Running.{EarlyEnds}
 use Rattle.form.proofs.Members.{has_right}
 use Rattle.refusal.specs.declared.Refusal.{Refusal}
 use Rattle.marks.specs.Among.{among}
 use Rattle.marks.proofs.Marked.{places_before}
-use Rattle.history.specs.Rules.{Fills, Stops, some, last_block_of}
-use Rattle.search.specs.Finding.{padded, Finds, Goes, MatchesMore, ends_in}
+use Rattle.history.specs.Rules.{Fills, Stops, some}
+use Rattle.search.specs.Finding.{padded, Finds, Goes, MatchesMore}
 use Rattle.search.specs.Telling.{gathered_of, Running}
 use Rattle.search.specs.Entering.{MatchesGathered, Enters, EndsLine}
 use Rattle.search.specs.declared.finder.Finder.{Finder}

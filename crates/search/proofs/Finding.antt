@@ -9,7 +9,7 @@ use Rattle.std.proofs.lemmas.Bool.{false≢true}
 use Rattle.stream.specs.Tables.{rows}
 use Rattle.stream.proofs.Tables.{rows_read, rows_here, rows_wide}
 use Rattle.block.specs.Rows.{bit, tab}
-use Rattle.block.specs.Calls.{widest, answered, none_row, and_row, not_row, First}
+use Rattle.block.specs.Calls.{widest, and_row, not_row, First}
 use Rattle.block.proofs.Rows.{bit_at, bit_tab, tab_is}
 use Rattle.limits.specs.Limits.{widest_kind, longest_recording}
 use Rattle.form.specs.Form.{Form}
@@ -18,19 +18,17 @@ use Rattle.form.specs.Lines.{Place}
 use Rattle.form.specs.Positions.{line_at, start_at, place_at}
 use Rattle.form.specs.Running.{EarlyEnds, places_from}
 use Rattle.form.proofs.Running.{early_none, early_unique}
-use Rattle.refusal.specs.declared.ends.End.{End}
 use Rattle.marks.specs.Among.{among}
-use Rattle.marks.specs.Bounds.{farthest}
-use Rattle.marks.specs.Counting.{end_of, FeedsAt, Counts, AtFirst, Moves, Placed, Nexts}
+use Rattle.marks.specs.Counting.{FeedsAt, Counts, Moves, Nexts}
 use Rattle.marks.specs.declared.count.Lines.{Lines}
 use Rattle.marks.proofs.Marked.{places_none, places_first, places_among}
 use Rattle.tree.specs.Stands.{Stands}
-use Rattle.machine.specs.Matching.{Loaded, Matched, Keeps, Shows, feeds_of}
+use Rattle.machine.specs.Matching.{Loaded, Keeps, Shows, feeds_of}
 use Rattle.machine.specs.declared.loaded.Matcher.{Matcher}
 use Rattle.machine.proofs.Ready.{kept_runs}
 use Rattle.machine.proofs.Early.{shown_early}
 use Rattle.history.specs.Rules.{last_block_of, waiting_row, some}
-use Rattle.search.specs.Finding.{padded, Showing, FirstLines, ends_in, Blank, Finds, Goes}
+use Rattle.search.specs.Finding.{padded, Showing, FirstLines, ends_in, Blank, Finds}
 use Rattle.search.specs.declared.finder.Finder.{Finder}
 
 -- ---- tapes that agree before a position

@@ -1,9 +1,7 @@
 -- What each call answers, and where it leaves the search. Assumes nothing.
-use Rattle.std.proofs.Common.{◌≡◌, ℕ, ◌+◌, ◌<◌, ◌≤◌, Bool, true, false, not, ltb, ◌⊎◌, List, [], ◌∷◌, ◌++◌, length, take, Some, None, Ok, Err, vec_items, Option, Result, sym, refl, ap, ◌∙◌, subst, inl, inr, append_assoc, arith}
-use native.Mathlib.Decide.{dec_lt}
-use Rattle.std.proofs.lemmas.List.{append-nil}
+use Rattle.std.proofs.Common.{◌≡◌, ℕ, ◌+◌, ◌<◌, ◌≤◌, Bool, true, false, ltb, ◌⊎◌, List, [], ◌∷◌, ◌++◌, length, take, Some, None, Ok, Err, vec_items, Option, Result, sym, refl, ap, ◌∙◌, subst, inl, inr, arith}
 use Rattle.std.proofs.lemmas.Bool.{false≢true, ltb-false}
-use Rattle.limits.specs.Limits.{widest_kind, longest_piece, longest_recording, need}
+use Rattle.limits.specs.Limits.{longest_piece, longest_recording, need}
 use Rattle.form.specs.Form.{Form, weight}
 use Rattle.form.specs.Lines.{Place}
 use Rattle.form.specs.Positions.{closed}
@@ -11,14 +9,10 @@ use Rattle.form.specs.Running.{EarlyEnds}
 use Rattle.refusal.specs.declared.ends.End.{End}
 use Rattle.refusal.specs.declared.Refusal.{Refusal}
 use Rattle.refusal.specs.declared.Refusal.TheVariants.{SearchEmpty, SearchClosed, EndsWaiting, TooFewBlocks, TooManyBytes, RecordingTooLong}
-use Rattle.compiler.specs.Faults.{Reads, Refused}
 use Rattle.marks.specs.Counting.{end_of}
-use Rattle.machine.specs.Matching.{Loaded, Matched, Same, Keeps}
-use Rattle.machine.specs.declared.loaded.Matcher.{Matcher}
 use Rattle.machine.proofs.Ready.{kept_runs}
 use Rattle.history.specs.Calls as history
 use Rattle.history.specs.Calls.{Asked, Told, Event, History, state_of, text_of, taken_of, drawn_of, dry}
-use Rattle.history.specs.Law.{Law}
 use Rattle.history.specs.Rules as Rules
 use Rattle.history.specs.Rules.{matched, Stands, Stops, By, Answers, Right, some, next, weighs, waiting_row, feed_refusal, close_refusal, rewind_refusal}
 use Rattle.history.proofs.Blocks.{matched_step}

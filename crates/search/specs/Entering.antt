@@ -1,5 +1,5 @@
 -- What becomes of bytes that enter a search. Assumes nothing.
-use Rattle.std.specs.Prelude.{◌≡◌, ℕ, ◌+◌, ◌<◌, ◌≤◌, Bool, true, false, cond, List, [], ◌∷◌, ◌++◌, length, take, Ok, Err, Result}
+use Rattle.std.specs.Prelude.{◌≡◌, ℕ, ◌+◌, ◌<◌, ◌≤◌, Bool, true, false, cond, List, [], ◌∷◌, ◌++◌, length, take, Ok, Result}
 use Rattle.limits.specs.Limits.{widest_kind, longest_recording, need}
 use Rattle.form.specs.Form.{Form, weight}
 use Rattle.form.specs.Lines.{Place}

@@ -1,4 +1,7 @@
 // The search.
+
+#![tactic(auto)]
+
 mod calls;
 mod finder;
 mod state;

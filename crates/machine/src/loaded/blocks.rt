@@ -24,7 +24,7 @@ use std::mem::swap;
 // Whether a block of so many bytes can be matched with so many working blocks.
 fn agree<B: Block>(weight: usize, blocks: usize, bytes: usize) -> Result<(), Refusal>
     requires { weight ≤ heaviest }
-    ensures { Agrees places weight blocks bytes result }
+    ensures { Agrees B.places weight blocks bytes result }
 {
     if B::width() > WIDEST_KIND {
         return Err(Refusal::KindTooWide);
@@ -41,11 +41,11 @@ fn agree<B: Block>(weight: usize, blocks: usize, bytes: usize) -> Result<(), Ref
 impl Matcher {
     // Runs the program over a block whose rows are made.
     fn run<B: Block>(&mut self, blocks: &mut [B]) -> B
-        requires seen { places ≤ widest }
+        requires seen { B.places ≤ widest }
         requires room { self.old.sizes.rows ≤ length blocks.old }
         ensures keeps { Keeps self.old self.new }
         ensures ins { self.new.ins ≡ self.old.ins }
-        ensures found { (F : Form) (t : ℕ → ℕ) (b : ℕ) → Ready F t b places (program_of self.old.compiled) (stars_at self.old.sizes.classes) (stars_at self.old.sizes.classes + self.old.sizes.stars) (rows row blocks.old) (bit self.old.ins.items) → Found F t b places (row result) (bit self.new.outs.items) }
+        ensures found { (F : Form) (t : ℕ → ℕ) (b : ℕ) → Ready F t b B.places (program_of self.old.compiled) (stars_at self.old.sizes.classes) (stars_at self.old.sizes.classes + self.old.sizes.stars) (rows B.Block.row blocks.old) (bit self.old.ins.items) → Found F t b B.places (B.Block.row result) (bit self.new.outs.items) }
     {
         let from = CLASSES + self.sizes.classes;
         let to = from + self.sizes.stars;
@@ -67,7 +67,7 @@ impl Matcher {
         piece: &[u8],
         blocks: &mut [B],
     ) -> Result<Shown<B>, Refusal>
-        ensures { MatchesBlock row places self.old self.new piece.now blocks.old blocks.new result }
+        ensures { MatchesBlock B.Block.row B.places self.old self.new piece.now blocks.old blocks.new result }
     {
         agree::<B>(self.weight, blocks.len(), piece.len())?;
         let (feeds, behind) = rule(piece, self.starts, self.compiled.sets(), blocks)?;

@@ -15,7 +15,7 @@ pub fn list_block<B: Block>(
     table: &mut [End],
     count: usize,
 ) -> (usize, bool)
-    ensures { Lists row (answered places) ends lines.old lines.new table.old table.new count result.0 result.1 }
+    ensures { Lists B.Block.row (answered B.places) ends lines.old lines.new table.old table.new count result.0 result.1 }
 {
     let mut count = count;
     let mut at = lines.at;

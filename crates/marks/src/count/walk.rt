@@ -12,7 +12,7 @@ impl<B: Block> Lines<B> {
     // At the first place of a recording's first block, which has these line feeds.
     pub fn first(feeds: B) -> Lines<B>
         ensures fields { AtFirst feeds result }
-        ensures counts { (t : ℕ → ℕ) → FeedsAt t 0 (answered places) (row feeds) → Counts row (answered places) t result }
+        ensures counts { (t : ℕ → ℕ) → FeedsAt t 0 (answered B.places) (B.Block.row feeds) → Counts B.Block.row (answered B.places) t result }
     {
         Lines {
             feeds,
@@ -26,8 +26,8 @@ impl<B: Block> Lines<B> {
     // Moves on to place `to`.
     pub(crate) fn reach(&mut self, to: usize)
         requires order { self.old.at ≤ to }
-        requires seen { to ≤ answered places }
-        ensures { Moves row (answered places) self.old self.new to }
+        requires seen { to ≤ answered B.places }
+        ensures { Moves B.Block.row (answered B.places) self.old self.new to }
     {
         let line = Line {
             number: self.number,
@@ -45,7 +45,7 @@ impl<B: Block> Lines<B> {
 
     // Moves on behind the block's last place.
     pub(crate) fn finish(&mut self)
-        ensures { Moves row (answered places) self.old self.new (max self.old.at (answered places)) }
+        ensures { Moves B.Block.row (answered B.places) self.old self.new (max self.old.at (answered B.places)) }
     {
         let width = B::width();
         if self.at < width {
@@ -70,7 +70,7 @@ impl<B: Block> Lines<B> {
     // Moves on to place `p`, and answers the end there. A place that is passed, or none of the block's, is answered by None, and
     // then nothing moves.
     pub fn place(&mut self, p: usize) -> Option<End>
-        ensures { Placed row (answered places) self.old self.new p result }
+        ensures { Placed B.Block.row (answered B.places) self.old self.new p result }
     {
         if p < self.at || p >= B::width() {
             return None;
@@ -82,7 +82,7 @@ impl<B: Block> Lines<B> {
     // Moves on to the next block, which has these line feeds. Where that would begin behind `FARTHEST`, or the lines stand behind
     // the places of this kind, nothing moves, and the answer is false.
     pub fn next(&mut self, feeds: B) -> bool
-        ensures { Nexts row (answered places) feeds self.old self.new result }
+        ensures { Nexts B.Block.row (answered B.places) feeds self.old self.new result }
     {
         let width = B::width();
         if self.at > width || self.base + width > FARTHEST {

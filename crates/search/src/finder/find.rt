@@ -20,8 +20,8 @@ const TEXTS: usize = 1;
 
 // The lines of the next block, of these line feeds, where so many bytes were matched before it.
 fn lines_after<B: Block>(lines: Lines<B>, matched: usize, feeds: B) -> Lines<B>
-    ensures first { matched ≡ 0 → FirstLines row (answered places) feeds result }
-    ensures next { 0 < matched → (b : Bool) × Nexts row (answered places) feeds lines result b }
+    ensures first { matched ≡ 0 → FirstLines B.Block.row (answered B.places) feeds result }
+    ensures next { 0 < matched → (b : Bool) × Nexts B.Block.row (answered B.places) feeds lines result b }
 {
     if matched == 0 {
         return Lines::first(feeds);
@@ -34,7 +34,7 @@ fn lines_after<B: Block>(lines: Lines<B>, matched: usize, feeds: B) -> Lines<B>
 impl<B: Block> Finder<B> {
     // Without a text; only this can want memory.
     pub(crate) fn new(heap: Global) -> Result<Finder<B>, AllocError>
-        ensures { IfOk result (λ x. Blank row places x) }
+        ensures { IfOk result (λ x. Blank B.Block.row B.places x) }
     {
         let matcher = Matcher::new(heap)?;
         let mut ends = Vec::with_capacity(heap, TEXTS)?;
@@ -50,7 +50,7 @@ impl<B: Block> Finder<B> {
 
     // Forgets what was matched, but for the text.
     fn forget(&mut self)
-        ensures blank { Blank row places self.new }
+        ensures blank { Blank B.Block.row B.places self.new }
         ensures matcher { self.new.matcher ≡ self.old.matcher }
     {
         self.ends[0] = B::none();
@@ -59,7 +59,7 @@ impl<B: Block> Finder<B> {
 
     // Takes a text, and stands at the start of a recording.
     pub(crate) fn load(&mut self, text: &[u8]) -> Result<(), Refusal>
-        ensures { LoadsText row places text.now self.old self.new result }
+        ensures { LoadsText B.Block.row B.places text.now self.old self.new result }
     {
         if B::width() > WIDEST_KIND {
             return Err(Refusal::KindTooWide);
@@ -71,7 +71,7 @@ impl<B: Block> Finder<B> {
 
     // Back to the start of a recording.
     pub(crate) fn rewind(&mut self)
-        ensures { (F : Form) (m : List ℕ) (hs ws : List Place) → Finds row places self.old F m hs ws → Finds row places self.new F [] [] [] × Goes row places self.new F [] }
+        ensures { (F : Form) (m : List ℕ) (hs ws : List Place) → Finds B.Block.row B.places self.old F m hs ws → Finds B.Block.row B.places self.new F [] [] [] × Goes B.Block.row B.places self.new F [] }
     {
         self.matcher.rewind();
         self.forget();
@@ -79,7 +79,7 @@ impl<B: Block> Finder<B> {
 
     // Matches a block, and answers whether it holds an end.
     pub(crate) fn match_more(&mut self, piece: &[u8], blocks: &mut [B]) -> Result<bool, Refusal>
-        ensures { MatchesMore row places self.old self.new piece.now (length blocks.old) result }
+        ensures { MatchesMore B.Block.row B.places self.old self.new piece.now (length blocks.old) result }
     {
         let shown = self.matcher.match_block(piece, blocks)?;
         self.show(shown, piece.len());
@@ -90,9 +90,9 @@ impl<B: Block> Finder<B> {
     fn show(&mut self, shown: Shown<B>, bytes: usize)
         ensures matcher { self.new.matcher ≡ self.old.matcher }
         ensures matched { self.old.matched + bytes < 2 ^ 64 → self.new.matched ≡ self.old.matched + bytes }
-        ensures ends { ends_in row places self.new ≡ row shown.ends }
-        ensures first { self.old.matched ≡ 0 → FirstLines row (answered places) shown.feeds self.new.lines }
-        ensures next { 0 < self.old.matched → (b : Bool) × Nexts row (answered places) shown.feeds self.old.lines self.new.lines b }
+        ensures ends { ends_in B.Block.row B.places self.new ≡ B.Block.row shown.ends }
+        ensures first { self.old.matched ≡ 0 → FirstLines B.Block.row (answered B.places) shown.feeds self.new.lines }
+        ensures next { 0 < self.old.matched → (b : Bool) × Nexts B.Block.row (answered B.places) shown.feeds self.old.lines self.new.lines b }
     {
         self.lines = lines_after(self.lines, self.matched, shown.feeds);
         self.matched = self.matched.saturating_add(bytes);
@@ -101,21 +101,21 @@ impl<B: Block> Finder<B> {
 
     // Whether ends wait.
     pub(crate) fn waits(&self) -> bool
-        ensures { (F : Form) (m : List ℕ) (hs ws : List Place) → Finds row places self.now F m hs ws → result ≡ some ws }
+        ensures { (F : Form) (m : List ℕ) (hs ws : List Place) → Finds B.Block.row B.places self.now F m hs ws → result ≡ some ws }
     {
         self.ends[0].first(0).is_some()
     }
 
     // The block matched last, with the ends that wait.
     pub(crate) fn waiting(&self) -> B
-        ensures { row result ≡ ends_in row places self.now }
+        ensures { B.Block.row result ≡ ends_in B.Block.row B.places self.now }
     {
         self.ends[0]
     }
 
     // Hands out the next end.
     pub(crate) fn draw(&mut self) -> Option<End>
-        ensures { Draws row places self.old self.new result }
+        ensures { Draws B.Block.row B.places self.old self.new result }
     {
         let Some(p) = self.ends[0].first(0) else {
             return None;

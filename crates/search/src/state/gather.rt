@@ -39,7 +39,7 @@ fn first_of(bytes: &[u8], n: usize) -> &[u8]
 
 // Whether so many bytes are a block of their own, with none gathered before them: they are matched where they stand.
 fn alone<B: Block>(fill: usize, bytes: usize) -> bool
-    ensures { result ≡ true → (fill ≡ 0) × (bytes ≡ answered places) }
+    ensures { result ≡ true → (fill ≡ 0) × (bytes ≡ answered B.places) }
 {
     fill == 0 && bytes == B::width()
 }
@@ -48,14 +48,14 @@ impl<B: Block> Search<B> {
     // How many bytes the next block still takes.
     fn room(&self) -> usize
         ensures some { 0 < result }
-        ensures fits { places ≤ widest_kind → self.now.fill < places → self.now.fill + result ≡ places }
+        ensures fits { B.places ≤ widest_kind → self.now.fill < B.places → self.now.fill + result ≡ B.places }
     {
         B::width().saturating_sub(self.fill).max(1)
     }
 
     // Keeps bytes that do not fill a block yet.
     fn gather(&mut self, part: &[u8])
-        ensures { Gathers row places self.old self.new part.now }
+        ensures { Gathers B.Block.row B.places self.old self.new part.now }
     {
         let end = self.fill.saturating_add(part.len());
         if end > WIDEST_KIND {
@@ -67,7 +67,7 @@ impl<B: Block> Search<B> {
 
     // Matches the gathered bytes.
     fn match_gathered(&mut self, blocks: &mut [B]) -> Result<bool, Refusal>
-        ensures { MatchesGathered row places self.old self.new (length blocks.old) result }
+        ensures { MatchesGathered B.Block.row B.places self.old self.new (length blocks.old) result }
     {
         let n = self.fill;
         self.fill = 0;
@@ -77,7 +77,7 @@ impl<B: Block> Search<B> {
 
     // Takes bytes that the next block has room for, and answers whether they fill one that holds an end. Every byte enters here.
     fn enter(&mut self, part: &[u8], blocks: &mut [B]) -> Result<bool, Refusal>
-        ensures { Enters row places self.old self.new part.now (length blocks.old) result }
+        ensures { Enters B.Block.row B.places self.old self.new part.now (length blocks.old) result }
     {
         self.taken = self.taken.saturating_add(part.len());
         if alone::<B>(self.fill, part.len()) {
@@ -92,7 +92,7 @@ impl<B: Block> Search<B> {
 
     // Takes the piece up to the byte that fills a block holding an end, or the whole of it; answers how many bytes.
     pub(super) fn take(&mut self, piece: &[u8], blocks: &mut [B]) -> Result<usize, Refusal>
-        ensures { Takes row places self.old self.new piece.now (length blocks.old) result }
+        ensures { Takes B.Block.row B.places self.old self.new piece.now (length blocks.old) result }
     {
         let mut at = 0;
         while at < piece.len() {
@@ -108,7 +108,7 @@ impl<B: Block> Search<B> {
 
     // Whether a line starts behind the bytes taken.
     fn at_line_start(&self) -> bool
-        ensures { (F : Form) (bytes : List ℕ) (hs ws : List Place) → Running row places self.now F bytes hs ws → result ≡ opens (tape bytes) (length bytes) }
+        ensures { (F : Form) (bytes : List ℕ) (hs ws : List Place) → Running B.Block.row B.places self.now F bytes hs ws → result ≡ opens (tape bytes) (length bytes) }
     {
         if self.fill == 0 {
             return self.finder.at_line_start();
@@ -118,7 +118,7 @@ impl<B: Block> Search<B> {
 
     // Gathers a line feed behind a last line that has none.
     fn end_line(&mut self)
-        ensures { EndsLine row places self.old self.new }
+        ensures { EndsLine B.Block.row B.places self.old self.new }
     {
         if self.at_line_start() {
             return;
@@ -128,7 +128,7 @@ impl<B: Block> Search<B> {
 
     // Matches what is gathered, with a line feed behind a last line that has none.
     pub(super) fn match_rest(&mut self, blocks: &mut [B]) -> Result<(), Refusal>
-        ensures { Closes row places self.old self.new (length blocks.old) result }
+        ensures { Closes B.Block.row B.places self.old self.new (length blocks.old) result }
     {
         self.end_line();
         if self.fill == 0 {

@@ -11,7 +11,7 @@ use refusal::Refusal;
 impl<B: Block> Search<B> {
     // Performs a call with these working blocks, which may hold anything.
     pub fn perform(&mut self, call: Call<'_>, blocks: &mut [B]) -> Result<Answer<B>, Refusal>
-        ensures { (h : History) → Tells row places self.old h → Performs row places self.old self.new blocks.old blocks.new h (asked call.entry (length blocks.old)) (told row result) }
+        ensures { (h : History) → Tells B.Block.row B.places self.old h → Performs B.Block.row B.places self.old self.new blocks.old blocks.new h (asked call.entry (length blocks.old)) (told B.Block.row result) }
     {
         match (self.state, call) {
             (_, Call::Load(text)) => self.take_text(text),

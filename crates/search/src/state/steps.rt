@@ -18,7 +18,7 @@ use std::alloc::{AllocError, Global};
 impl<B: Block> Search<B> {
     // An empty search; only this can want memory.
     pub fn new(heap: Global) -> Result<Search<B>, AllocError>
-        ensures { IfOk result (λ s. Tells row places s []) }
+        ensures { IfOk result (λ s. Tells B.Block.row B.places s []) }
     {
         let finder = Finder::new(heap)?;
         let gathered = vec![in heap; 0u8; WIDEST_KIND]?;
@@ -45,7 +45,7 @@ impl<B: Block> Search<B> {
 
     // Load, in every state.
     pub(super) fn take_text(&mut self, text: &[u8]) -> Result<Answer<B>, Refusal>
-        ensures { (h : History) (blocks : List B) → Tells row places self.old h → Performs row places self.old self.new blocks blocks h (history.load text.now) (told row result) }
+        ensures { (h : History) (blocks : List B) → Tells B.Block.row B.places self.old h → Performs B.Block.row B.places self.old self.new blocks blocks h (history.load text.now) (told B.Block.row result) }
     {
         self.finder.load(text)?;
         self.open();
@@ -55,7 +55,7 @@ impl<B: Block> Search<B> {
     // Rewind, where a text was loaded.
     pub(super) fn back(&mut self) -> Answer<B>
         requires { self.old.state ≢ State.Empty }
-        ensures { (h : History) (blocks : List B) → Tells row places self.old h → Performs row places self.old self.new blocks blocks h history.rewind (said row result) }
+        ensures { (h : History) (blocks : List B) → Tells B.Block.row B.places self.old h → Performs B.Block.row B.places self.old self.new blocks blocks h history.rewind (said B.Block.row result) }
     {
         self.finder.rewind();
         self.open();
@@ -64,7 +64,7 @@ impl<B: Block> Search<B> {
 
     // Why an open search refuses the working blocks: ends wait, or the blocks are too few.
     fn may_match(&self, blocks: usize) -> Result<(), Refusal>
-        ensures { (F : Form) (bytes : List ℕ) (hs ws : List Place) → Running row places self.now F bytes hs ws → result ≡ as_result (close_refusal history.Open (some ws) (weight_of F) blocks) }
+        ensures { (F : Form) (bytes : List ℕ) (hs ws : List Place) → Running B.Block.row B.places self.now F bytes hs ws → result ≡ as_result (close_refusal history.Open (some ws) (weight_of F) blocks) }
     {
         if self.finder.waits() {
             return Err(Refusal::EndsWaiting);
@@ -78,7 +78,7 @@ impl<B: Block> Search<B> {
 
     // Why an open search refuses a piece.
     fn may_feed(&self, piece: usize, blocks: usize) -> Result<(), Refusal>
-        ensures { (F : Form) (bytes : List ℕ) (hs ws : List Place) → Running row places self.now F bytes hs ws → result ≡ as_result (feed_refusal history.Open (some ws) (weight_of F) (length bytes) piece blocks) }
+        ensures { (F : Form) (bytes : List ℕ) (hs ws : List Place) → Running B.Block.row B.places self.now F bytes hs ws → result ≡ as_result (feed_refusal history.Open (some ws) (weight_of F) (length bytes) piece blocks) }
     {
         self.may_match(blocks)?;
         if piece > LONGEST_PIECE {
@@ -97,7 +97,7 @@ impl<B: Block> Search<B> {
         blocks: &mut [B],
     ) -> Result<Answer<B>, Refusal>
         requires { self.old.state ≡ State.Open }
-        ensures { (h : History) → Tells row places self.old h → Performs row places self.old self.new blocks.old blocks.new h (history.feed piece.now (length blocks.old)) (told row result) }
+        ensures { (h : History) → Tells B.Block.row B.places self.old h → Performs B.Block.row B.places self.old self.new blocks.old blocks.new h (history.feed piece.now (length blocks.old)) (told B.Block.row result) }
     {
         self.may_feed(piece.len(), blocks.len())?;
         let n = self.take(piece, blocks)?;
@@ -107,7 +107,7 @@ impl<B: Block> Search<B> {
     // Close, of an open search.
     pub(super) fn end(&mut self, blocks: &mut [B]) -> Result<Answer<B>, Refusal>
         requires { self.old.state ≡ State.Open }
-        ensures { (h : History) → Tells row places self.old h → Performs row places self.old self.new blocks.old blocks.new h (history.close (length blocks.old)) (told row result) }
+        ensures { (h : History) → Tells B.Block.row B.places self.old h → Performs B.Block.row B.places self.old self.new blocks.old blocks.new h (history.close (length blocks.old)) (told B.Block.row result) }
     {
         self.may_match(blocks.len())?;
         self.match_rest(blocks)?;
@@ -117,7 +117,7 @@ impl<B: Block> Search<B> {
 
     // Draw, in every state.
     pub(super) fn next_end(&mut self) -> Answer<B>
-        ensures { (h : History) (blocks : List B) → Tells row places self.old h → Performs row places self.old self.new blocks blocks h history.draw (said row result) }
+        ensures { (h : History) (blocks : List B) → Tells B.Block.row B.places self.old h → Performs B.Block.row B.places self.old self.new blocks blocks h history.draw (said B.Block.row result) }
     {
         match self.finder.draw() {
             Some(end) => Answer::Found(end),
@@ -127,7 +127,7 @@ impl<B: Block> Search<B> {
 
     // The loaded weight.
     pub(super) fn loaded_weight(&self) -> usize
-        ensures { (h : History) (blocks : List B) → Tells row places self.now h → Performs row places self.now self.now blocks blocks h history.weight (history.count result) }
+        ensures { (h : History) (blocks : List B) → Tells B.Block.row B.places self.now h → Performs B.Block.row B.places self.now self.now blocks blocks h history.weight (history.count result) }
     {
         match self.state {
             State::Empty => 0,
@@ -137,14 +137,14 @@ impl<B: Block> Search<B> {
 
     // The block matched last, with the ends that wait.
     pub(super) fn last_block(&self) -> B
-        ensures { (h : History) (blocks : List B) → Tells row places self.now h → Performs row places self.now self.now blocks blocks h history.waiting (history.shown (row result)) }
+        ensures { (h : History) (blocks : List B) → Tells B.Block.row B.places self.now h → Performs B.Block.row B.places self.now self.now blocks blocks h history.waiting (history.shown (B.Block.row result)) }
     {
         self.finder.waiting()
     }
 
     // The bytes taken.
     pub(super) fn taken_bytes(&self) -> usize
-        ensures { (h : History) (blocks : List B) → Tells row places self.now h → Performs row places self.now self.now blocks blocks h history.taken (history.count result) }
+        ensures { (h : History) (blocks : List B) → Tells B.Block.row B.places self.now h → Performs B.Block.row B.places self.now self.now blocks blocks h history.taken (history.count result) }
     {
         self.taken
     }

@@ -1,5 +1,5 @@
-use Rattle.std.proofs.Common.{◌+◌, false, ◌||◌, map, drop, sym, ap, ◌∙◌}
-use mathlib.Core.Bool.{or_false, or_assoc}
+use Rattle.std.proofs.Common.{◌+◌, ◌||◌, map, drop, sym, ap, ◌∙◌}
+use mathlib.Core.Bool.{or-false, or_assoc}
 use Rattle.std.proofs.lemmas.List.{drop_more, drop_all}
 use Rattle.form.specs.Meaning.{listed}
 use Rattle.stream.specs.Sets.{has}
@@ -22,4 +22,4 @@ loop-r-preserved c v l =
 pub returns : goal.returns
 returns c v l =
     let h = has c.loop-r.all v in
-    sym (or_false h) ∙ ap (λ xs. h || listed (map item xs) v) (sym (drop_all c.loop-r.r-index c.args.ranges.now c.loop-r-test.false)) ∙ c.loop-r.invariant v l
+    sym (or-false h) ∙ ap (λ xs. h || listed (map item xs) v) (sym (drop_all c.loop-r.r-index c.args.ranges.now c.loop-r-test.false)) ∙ c.loop-r.invariant v l

@@ -1,4 +1,4 @@
-use Rattle.std.proofs.Common.{◌+◌, not, ◌&&◌, sym, ap, ◌∙◌, ap₂, arith}
+use Rattle.std.proofs.Common.{◌+◌, not, ◌&&◌, sym, ◌∙◌, ap₂, arith}
 use Rattle.block.proofs.Numbers.{bit_and_lem}
 use Rattle.classes.proofs.Halves.{of, halves, low_half, high_half}
 use Rattle.classes.proofs.sets.minus.Goals as goal

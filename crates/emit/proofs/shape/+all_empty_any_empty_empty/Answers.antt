@@ -1,35 +1,35 @@
 use Rattle.std.proofs.Common.{◌&&◌, ◌||◌, sym, refl, ap, ◌∙◌, ⊎_elim, arith}
 use Rattle.std.proofs.lemmas.Bool.{eq-eqb, lt-leb}
-use Rattle.classes.proofs.Shapes.{found, found_row, none_stands, none_stand, no_nil, no_cons}
+use Rattle.classes.proofs.Shapes.{found, found_row, none_stand, no_nil, no_cons}
 use Rattle.emit.proofs.Shaped.{quote_empties, set_empties, out_empties, seq_empties, or_empties, star_empties, start_empties, end_empties, none_empties, some_empties, falling_empties, all_cons, any_cons, all_first, any_first, all_rest, any_rest}
 use Rattle.emit.proofs.shape.+all_empty_any_empty_empty.Goals as goal
 
-pub all-empty-returns-in-default : goal.all-empty-returns-in-default
-all-empty-returns-in-default t c fs n h = absurd (none_stand _ _ fs c.in-default.ensures.value h)
+pub all_empty-returns-in_default : goal.all_empty-returns-in_default
+all_empty-returns-in_default t c fs n h = absurd (none_stand _ _ fs c.in_default.ensures.value h)
 
-pub all-empty-returns-then-empty : goal.all-empty-returns-then-empty
-all-empty-returns-then-empty t c fs n h = sym (ap (λ b. b && c.all-empty.result) c.if-empty.true) ∙ all_cons n _ _ _ _ (found_row _ _ _ _ fs c.in-Cons.is c.in-Some.ensures.value h) c.empty.ensures c.all-empty.ensures
+pub all_empty-returns-then-empty : goal.all_empty-returns-then-empty
+all_empty-returns-then-empty t c fs n h = sym (ap (λ b. b && c.all_empty.result) c.if-empty.true) ∙ all_cons n _ _ _ _ (found_row _ _ _ _ fs c.in-Cons.is c.in-Some.ensures.value h) c.empty.ensures c.all_empty.ensures
 
-pub all-empty-returns-else-empty : goal.all-empty-returns-else-empty
-all-empty-returns-else-empty t c fs n h = all_first n _ _ _ (found_row _ _ _ _ fs c.in-Cons.is c.in-Some.ensures.value h) c.empty.ensures c.if-empty.false
+pub all_empty-returns-else-empty : goal.all_empty-returns-else-empty
+all_empty-returns-else-empty t c fs n h = all_first n _ _ _ (found_row _ _ _ _ fs c.in-Cons.is c.in-Some.ensures.value h) c.empty.ensures c.if-empty.false
 
-pub all-empty-returns-in-default-node : goal.all-empty-returns-in-default-node
-all-empty-returns-in-default-node t c fs n h = all_rest n (found_row _ _ _ _ fs refl c.in-Some.ensures.value h) c.in-default-node.not-Cons
+pub all_empty-returns-in_default-node : goal.all_empty-returns-in_default-node
+all_empty-returns-in_default-node t c fs n h = all_rest n (found_row _ _ _ _ fs refl c.in-Some.ensures.value h) c.in_default-node.not-Cons
 
-pub any-empty-returns-in-default : goal.any-empty-returns-in-default
-any-empty-returns-in-default t c fs n h = absurd (none_stand _ _ fs c.in-default.ensures.value h)
+pub any_empty-returns-in_default : goal.any_empty-returns-in_default
+any_empty-returns-in_default t c fs n h = absurd (none_stand _ _ fs c.in_default.ensures.value h)
 
-pub any-empty-returns-then-empty : goal.any-empty-returns-then-empty
-any-empty-returns-then-empty t c fs n h = any_first n _ _ _ (found_row _ _ _ _ fs c.in-Cons.is c.in-Some.ensures.value h) c.empty.ensures c.if-empty.true
+pub any_empty-returns-then-empty : goal.any_empty-returns-then-empty
+any_empty-returns-then-empty t c fs n h = any_first n _ _ _ (found_row _ _ _ _ fs c.in-Cons.is c.in-Some.ensures.value h) c.empty.ensures c.if-empty.true
 
-pub any-empty-returns-else-empty : goal.any-empty-returns-else-empty
-any-empty-returns-else-empty t c fs n h = sym (ap (λ b. b || c.any-empty.result) c.if-empty.false) ∙ any_cons n _ _ _ _ (found_row _ _ _ _ fs c.in-Cons.is c.in-Some.ensures.value h) c.empty.ensures c.any-empty.ensures
+pub any_empty-returns-else-empty : goal.any_empty-returns-else-empty
+any_empty-returns-else-empty t c fs n h = sym (ap (λ b. b || c.any_empty.result) c.if-empty.false) ∙ any_cons n _ _ _ _ (found_row _ _ _ _ fs c.in-Cons.is c.in-Some.ensures.value h) c.empty.ensures c.any_empty.ensures
 
-pub any-empty-returns-in-default-node : goal.any-empty-returns-in-default-node
-any-empty-returns-in-default-node t c fs n h = any_rest n (found_row _ _ _ _ fs refl c.in-Some.ensures.value h) c.in-default-node.not-Cons
+pub any_empty-returns-in_default-node : goal.any_empty-returns-in_default-node
+any_empty-returns-in_default-node t c fs n h = any_rest n (found_row _ _ _ _ fs refl c.in-Some.ensures.value h) c.in_default-node.not-Cons
 
 pub empty-returns-in-Quote : goal.empty-returns-in-Quote
-empty-returns-in-Quote t c f n h = quote_empties n _ _ _ (found _ _ _ _ f c.in-Quote.is c.in-Some.ensures.value h) c.saturating-sub.ensures
+empty-returns-in-Quote t c f n h = quote_empties n _ _ _ (found _ _ _ _ f c.in-Quote.is c.in-Some.ensures.value h) c.saturating_sub.ensures
 
 pub empty-returns-in-Set : goal.empty-returns-in-Set
 empty-returns-in-Set t c f n h =
@@ -37,10 +37,10 @@ empty-returns-in-Set t c f n h =
     (λ is. out_empties n _ _ (found _ _ _ _ f is.2 c.in-Some.ensures.value h)) c.in-Set.is
 
 pub empty-returns-in-Seq : goal.empty-returns-in-Seq
-empty-returns-in-Seq t c f n h = seq_empties n _ _ (found _ _ _ _ f c.in-Seq.is c.in-Some.ensures.value h) c.all-empty.ensures
+empty-returns-in-Seq t c f n h = seq_empties n _ _ (found _ _ _ _ f c.in-Seq.is c.in-Some.ensures.value h) c.all_empty.ensures
 
 pub empty-returns-in-Or : goal.empty-returns-in-Or
-empty-returns-in-Or t c f n h = or_empties n _ _ (found _ _ _ _ f c.in-Or.is c.in-Some.ensures.value h) c.any-empty.ensures
+empty-returns-in-Or t c f n h = or_empties n _ _ (found _ _ _ _ f c.in-Or.is c.in-Some.ensures.value h) c.any_empty.ensures
 
 pub empty-returns-in-Star : goal.empty-returns-in-Star
 empty-returns-in-Star t c f n h = star_empties n _ (found _ _ _ _ f c.in-Star.is c.in-Some.ensures.value h)

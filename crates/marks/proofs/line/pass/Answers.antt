@@ -32,9 +32,9 @@ returns-then-p-to g c =
           no_feed t c.loop-p.line c.args.base c.loop-p.at c.args.to v.1 (λ i h l. sym (feeds i l) ∙ f.3 i h (omega arith)) (v.4 t feeds from);
     }
 
-pub returns-in-default : goal.returns-in-default
-returns-in-default g c =
-    let f = c.in-default.ensures in
+pub returns-in_default : goal.returns-in_default
+returns-in_default g c =
+    let f = c.in_default.ensures in
     let v = c.loop-p.invariant in
     record {
       number = omega arith;

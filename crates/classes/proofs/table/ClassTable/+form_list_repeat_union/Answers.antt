@@ -3,14 +3,14 @@ use Rattle.classes.proofs.Shapes.{found, found_row, none_stands, none_stand, no_
 use Rattle.classes.proofs.Adding.{quote_adds, set_adds, out_adds, seq_adds, or_adds, star_adds, rep_adds, start_adds, end_adds, cons_adds, any_adds, nil_adds, nothing_adds}
 use Rattle.classes.proofs.table.ClassTable.+form_list_repeat_union.Goals as goal
 
-pub form-returns-in-default : goal.form-returns-in-default
-form-returns-in-default t c f h = absurd (none_stands _ _ f c.in-default.ensures.value h)
+pub form-returns-in_default : goal.form-returns-in_default
+form-returns-in_default t c f h = absurd (none_stands _ _ f c.in_default.ensures.value h)
 
 pub form-returns-in-Quote : goal.form-returns-in-Quote
 form-returns-in-Quote t c f h = quote_adds _ _ _ _ _ (found _ _ _ _ f c.in-Quote.is c.in-Some.ensures.value h) c.bytes.ensures.here c.quote.ensures
 
 pub form-returns-in-Set : goal.form-returns-in-Set
-form-returns-in-Set t c f h = set_adds _ _ _ _ _ _ (found _ _ _ _ f c.in-Set.is c.in-Some.ensures.value h) c.ranges-2.ensures.here c.inside.ensures c.put.ensures
+form-returns-in-Set t c f h = set_adds _ _ _ _ _ _ (found _ _ _ _ f c.in-Set.is c.in-Some.ensures.value h) c.ranges-in-Set.ensures.here c.inside.ensures c.put.ensures
 
 pub form-returns-in-Out : goal.form-returns-in-Out
 form-returns-in-Out t c f h = out_adds _ _ _ _ _ _ (found _ _ _ _ f c.in-Out.is c.in-Some.ensures.value h) c.ranges-in-Out.ensures.here c.outside.ensures c.put-in-Out.ensures
@@ -37,20 +37,20 @@ form-returns-in-Nil t c f h =
     ⊎_elim (λ is. absurd (no_nil (found _ _ _ _ f is c.in-Some.ensures.value h)))
     (λ is. absurd (no_cons _ _ (found _ _ _ _ f is.2 c.in-Some.ensures.value h))) c.in-Nil.is
 
-pub list-returns-in-default : goal.list-returns-in-default
-list-returns-in-default t c fs h = absurd (none_stand _ _ fs c.in-default.ensures.value h)
+pub list-returns-in_default : goal.list-returns-in_default
+list-returns-in_default t c fs h = absurd (none_stand _ _ fs c.in_default.ensures.value h)
 
 pub list-returns-in-Cons : goal.list-returns-in-Cons
 list-returns-in-Cons t c fs h = cons_adds _ _ _ _ _ (found_row _ _ _ _ fs c.in-Cons.is c.in-Some.ensures.value h) c.form.ensures c.list.ensures
 
-pub list-returns-in-default-node : goal.list-returns-in-default-node
-list-returns-in-default-node t c fs h = nil_adds _ _ (found_row _ _ _ _ fs refl c.in-Some.ensures.value h) c.in-default-node.not-Cons refl
+pub list-returns-in_default-node : goal.list-returns-in_default-node
+list-returns-in_default-node t c fs h = nil_adds _ _ (found_row _ _ _ _ fs refl c.in-Some.ensures.value h) c.in_default-node.not-Cons refl
 
-pub union-returns-in-default : goal.union-returns-in-default
-union-returns-in-default t c fs h = absurd (none_stand _ _ fs c.in-default.ensures.value h)
+pub union-returns-in_default : goal.union-returns-in_default
+union-returns-in_default t c fs h = absurd (none_stand _ _ fs c.in_default.ensures.value h)
 
 pub union-returns-in-Cons : goal.union-returns-in-Cons
 union-returns-in-Cons t c fs h = any_adds _ _ _ _ _ (found_row _ _ _ _ fs c.in-Cons.is c.in-Some.ensures.value h) c.form.ensures c.list.ensures
 
-pub union-returns-in-default-node : goal.union-returns-in-default-node
-union-returns-in-default-node t c fs h = nothing_adds _ _ _ (found_row _ _ _ _ fs refl c.in-Some.ensures.value h) c.in-default-node.not-Cons c.none.ensures c.put.ensures
+pub union-returns-in_default-node : goal.union-returns-in_default-node
+union-returns-in_default-node t c fs h = nothing_adds _ _ _ (found_row _ _ _ _ fs refl c.in-Some.ensures.value h) c.in_default-node.not-Cons c.none.ensures c.put.ensures

@@ -3,20 +3,20 @@ use Rattle.classes.proofs.Shapes.{found, found_row, none_stands, none_stand, no_
 use Rattle.emit.proofs.Walked.{quote_walks, set_walks, out_walks, seq_walks, or_walks, star_walks, rep_walks, start_walks, end_walks, order_one, order_more, order_rest, either_one, either_more, either_rest, into_walks, on_walks, run_walks, loop_walks, falling_walks, never_walks, repeat_walks, copy_walks, option_into, option_on}
 use Rattle.emit.proofs.code.Code.+copies_either_form_in_order_one_of_repeat_star_up_to.Goals as goal
 
-pub form-returns-in-default : goal.form-returns-in-default
-form-returns-in-default t c f h = absurd (none_stands _ _ f c.in-default.ensures.value h)
+pub form-returns-in_default : goal.form-returns-in_default
+form-returns-in_default t c f h = absurd (none_stands _ _ f c.in_default.ensures.value h)
 
 pub form-returns-in-Quote : goal.form-returns-in-Quote
-form-returns-in-Quote t c f h = quote_walks c.args.class c.quote.result c.args.place c.args.self.now c.quote.new.self _ _ _ _ (found _ _ _ _ f c.in-Quote.is c.in-Some.ensures.value h) c.saturating-sub.ensures c.both.ensures c.quote.ensures
+form-returns-in-Quote t c f h = quote_walks c.args.class c.quote.result c.args.place c.args.self.now c.quote.new.self _ _ _ _ (found _ _ _ _ f c.in-Quote.is c.in-Some.ensures.value h) c.saturating_sub.ensures c.both.ensures c.quote.ensures
 
 pub form-returns-in-Set : goal.form-returns-in-Set
 form-returns-in-Set t c f h = ⊎_elim (λ is. set_walks c.args.class c.leaf.result c.args.place c.args.self.now c.leaf.new.self _ _ (found _ _ _ _ f is.2 c.in-Some.ensures.value h) c.leaf.ensures) (λ is. out_walks c.args.class c.leaf.result c.args.place c.args.self.now c.leaf.new.self _ _ (found _ _ _ _ f is.2 c.in-Some.ensures.value h) c.leaf.ensures) c.in-Set.is
 
 pub form-returns-in-Seq : goal.form-returns-in-Seq
-form-returns-in-Seq t c f h = seq_walks c.args.class c.in-order.result c.args.place c.args.self.now c.in-order.new.self _ (found _ _ _ _ f c.in-Seq.is c.in-Some.ensures.value h) c.in-order.ensures
+form-returns-in-Seq t c f h = seq_walks c.args.class c.in_order.result c.args.place c.args.self.now c.in_order.new.self _ (found _ _ _ _ f c.in-Seq.is c.in-Some.ensures.value h) c.in_order.ensures
 
 pub form-returns-in-Or : goal.form-returns-in-Or
-form-returns-in-Or t c f h = or_walks c.args.class c.one-of.result c.args.place c.args.self.now c.one-of.new.self _ (found _ _ _ _ f c.in-Or.is c.in-Some.ensures.value h) c.one-of.ensures
+form-returns-in-Or t c f h = or_walks c.args.class c.one_of.result c.args.place c.args.self.now c.one_of.new.self _ (found _ _ _ _ f c.in-Or.is c.in-Some.ensures.value h) c.one_of.ensures
 
 pub form-returns-in-Star : goal.form-returns-in-Star
 form-returns-in-Star t c f h = star_walks c.args.class c.star.result c.args.place c.args.self.now c.star.new.self _ (found _ _ _ _ f c.in-Star.is c.in-Some.ensures.value h) c.star.ensures
@@ -33,41 +33,41 @@ form-returns-in-End t c f h = end_walks c.args.class c.args.place c.args.self.no
 pub form-returns-in-Nil : goal.form-returns-in-Nil
 form-returns-in-Nil t c f h = ⊎_elim (λ is. absurd (no_nil (found _ _ _ _ f is c.in-Some.ensures.value h))) (λ is. absurd (no_cons _ _ (found _ _ _ _ f is.2 c.in-Some.ensures.value h))) c.in-Nil.is
 
-pub in-order-returns-in-default : goal.in-order-returns-in-default
-in-order-returns-in-default t c fs h = absurd (none_stand _ _ fs c.in-default.ensures.value h)
+pub in_order-returns-in_default : goal.in_order-returns-in_default
+in_order-returns-in_default t c fs h = absurd (none_stand _ _ fs c.in_default.ensures.value h)
 
-pub in-order-returns-then-no-form : goal.in-order-returns-then-no-form
-in-order-returns-then-no-form t c fs h = order_one c.args.class c.form.result c.args.place c.args.self.now c.form.new.self _ _ _ (found_row _ _ _ _ fs c.in-Cons.is c.in-Some.ensures.value h) c.no-form.ensures c.if-no-form.true c.form.ensures
+pub in_order-returns-then-no_form : goal.in_order-returns-then-no_form
+in_order-returns-then-no_form t c fs h = order_one c.args.class c.form.result c.args.place c.args.self.now c.form.new.self _ _ _ (found_row _ _ _ _ fs c.in-Cons.is c.in-Some.ensures.value h) c.no_form.ensures c.if-no_form.true c.form.ensures
 
-pub in-order-returns-else-no-form : goal.in-order-returns-else-no-form
-in-order-returns-else-no-form t c fs h = order_more c.args.class c.in-order.result c.form-next.result c.args.place c.ahead.result c.behind.result c.last-before-last.result c.first-behind-first.result c.args.self.now c.form-next.new.self c.in-order.new.self _ _ _ (found_row _ _ _ _ fs c.in-Cons.is c.in-Some.ensures.value h) c.no-form.ensures c.if-no-form.false c.last-before-last.ensures c.first-behind-first.ensures c.ahead.ensures c.behind.ensures c.form-next.ensures c.in-order.ensures
+pub in_order-returns-else-no_form : goal.in_order-returns-else-no_form
+in_order-returns-else-no_form t c fs h = order_more c.args.class c.in_order.result c.form-next.result c.args.place c.ahead.result c.behind.result c.last_before-last.result c.first_behind-first.result c.args.self.now c.form-next.new.self c.in_order.new.self _ _ _ (found_row _ _ _ _ fs c.in-Cons.is c.in-Some.ensures.value h) c.no_form.ensures c.if-no_form.false c.last_before-last.ensures c.first_behind-first.ensures c.ahead.ensures c.behind.ensures c.form-next.ensures c.in_order.ensures
 
-pub in-order-returns-in-default-node : goal.in-order-returns-in-default-node
-in-order-returns-in-default-node t c fs h = order_rest c.args.class c.args.place c.args.self.now c.stay.new.self (found_row _ _ _ _ fs refl c.in-Some.ensures.value h) c.in-default-node.not-Cons (c.stay.ensures c.args.place.depth)
+pub in_order-returns-in_default-node : goal.in_order-returns-in_default-node
+in_order-returns-in_default-node t c fs h = order_rest c.args.class c.args.place c.args.self.now c.stay.new.self (found_row _ _ _ _ fs refl c.in-Some.ensures.value h) c.in_default-node.not-Cons (c.stay.ensures c.args.place.depth)
 
-pub one-of-returns-in-default : goal.one-of-returns-in-default
-one-of-returns-in-default t c fs h = absurd (none_stand _ _ fs c.in-default.ensures.value h)
+pub one_of-returns-in_default : goal.one_of-returns-in_default
+one_of-returns-in_default t c fs h = absurd (none_stand _ _ fs c.in_default.ensures.value h)
 
-pub one-of-returns-then-no-form : goal.one-of-returns-then-no-form
-one-of-returns-then-no-form t c fs h = either_one c.args.class c.form.result c.args.place c.args.self.now c.form.new.self _ _ _ (found_row _ _ _ _ fs c.in-Cons.is c.in-Some.ensures.value h) c.no-form.ensures c.if-no-form.true c.form.ensures
+pub one_of-returns-then-no_form : goal.one_of-returns-then-no_form
+one_of-returns-then-no_form t c fs h = either_one c.args.class c.form.result c.args.place c.args.self.now c.form.new.self _ _ _ (found_row _ _ _ _ fs c.in-Cons.is c.in-Some.ensures.value h) c.no_form.ensures c.if-no_form.true c.form.ensures
 
-pub one-of-returns-else-no-form : goal.one-of-returns-else-no-form
-one-of-returns-else-no-form t c fs h = either_more c.args.class c.either.result c.args.place c.args.self.now c.either.new.self _ _ _ (found_row _ _ _ _ fs c.in-Cons.is c.in-Some.ensures.value h) c.no-form.ensures c.if-no-form.false c.either.ensures
+pub one_of-returns-else-no_form : goal.one_of-returns-else-no_form
+one_of-returns-else-no_form t c fs h = either_more c.args.class c.either.result c.args.place c.args.self.now c.either.new.self _ _ _ (found_row _ _ _ _ fs c.in-Cons.is c.in-Some.ensures.value h) c.no_form.ensures c.if-no_form.false c.either.ensures
 
-pub one-of-returns-in-default-node : goal.one-of-returns-in-default-node
-one-of-returns-in-default-node t c fs h = either_rest c.args.class c.leaf.result c.args.place c.args.self.now c.leaf.new.self (found_row _ _ _ _ fs refl c.in-Some.ensures.value h) c.in-default-node.not-Cons c.leaf.ensures
+pub one_of-returns-in_default-node : goal.one_of-returns-in_default-node
+one_of-returns-in_default-node t c fs h = either_rest c.args.class c.leaf.result c.args.place c.args.self.now c.leaf.new.self (found_row _ _ _ _ fs refl c.in-Some.ensures.value h) c.in_default-node.not-Cons c.leaf.ensures
 
 pub either-returns-in-Some : goal.either-returns-in-Some
-either-returns-in-Some t c f fs a b = into_walks c.args.class c.one-of.result c.form-next.result c.in-Some.row c.args.place c.deeper.result c.args.self.now f fs _ _ a b c.put.new.self c.form-next.new.self c.put-in-Some.new.self c.one-of.new.self c.in-Some.is c.deeper.ensures.place c.deeper.ensures.depth c.put.ensures c.form-next.ensures c.put-in-Some.ensures c.one-of.ensures
+either-returns-in-Some t c f fs a b = into_walks c.args.class c.one_of.result c.form-next.result c.in-Some.row c.args.place c.deeper.result c.args.self.now f fs _ _ a b c.put.new.self c.form-next.new.self c.put-in-Some.new.self c.one_of.new.self c.in-Some.is c.deeper.ensures.place c.deeper.ensures.depth c.put.ensures c.form-next.ensures c.put-in-Some.ensures c.one_of.ensures
 
 pub either-returns-in-None : goal.either-returns-in-None
-either-returns-in-None t c f fs a b = on_walks c.args.class c.one-of-next.result c.form-next-in-None.result c.next-gather-row.result c.args.place c.deeper-in-None.result c.args.self.now f fs _ _ a b c.next-gather-row.new.self c.put-in-None.new.self c.form-next-in-None.new.self c.put-in-None-2.new.self c.put-in-None-3.new.self c.one-of-next.new.self c.put-in-None-4.new.self c.gathered.result c.next-gather-row.ensures.number c.in-None.is c.deeper-in-None.ensures.place c.deeper-in-None.ensures.depth c.gathered.ensures c.next-gather-row.ensures.counted c.put-in-None.ensures c.form-next-in-None.ensures c.put-in-None-2.ensures c.put-in-None-3.ensures c.one-of-next.ensures c.put-in-None-4.ensures
+either-returns-in-None t c f fs a b = on_walks c.args.class c.one_of-next.result c.form-next-in-None.result c.next_gather-row.result c.args.place c.deeper-in-None.result c.args.self.now f fs _ _ a b c.next_gather-row.new.self c.put-in-None.new.self c.form-next-in-None.new.self c.put-in-None-2.new.self c.put-in-None-3.new.self c.one_of-next.new.self c.put-in-None-4.new.self c.gathered.result c.next_gather-row.ensures.number c.in-None.is c.deeper-in-None.ensures.place c.deeper-in-None.ensures.depth c.gathered.ensures c.next_gather-row.ensures.counted c.put-in-None.ensures c.form-next-in-None.ensures c.put-in-None-2.ensures c.put-in-None-3.ensures c.one_of-next.ensures c.put-in-None-4.ensures
 
 pub star-returns-then-single : goal.star-returns-then-single
-star-returns-then-single t c f h = run_walks c.args.class _ c.args.place c.args.self.now c.run.new.self f (sym (c.single.ensures f c.args.class h) ∙ c.if-single.true) (λ few. omega (arith, c.saturating-add.ensures)) (λ few. c.run.ensures few c.args.place.depth)
+star-returns-then-single t c f h = run_walks c.args.class _ c.args.place c.args.self.now c.run.new.self f (sym (c.single.ensures f c.args.class h) ∙ c.if-single.true) (λ few. omega (arith, c.saturating_add.ensures)) (λ few. c.run.ensures few c.args.place.depth)
 
 pub star-returns : goal.star-returns
-star-returns t c f h = loop_walks c.args.class c.form-next.result c.next-star-row.result c.args.place c.round.result c.args.self.now c.next-star-row.new.self c.put.new.self c.put-2.new.self c.form-next.new.self c.put-3.new.self c.put-4.new.self c.stay.new.self f c.next-star-row.ensures.number (sym (c.single.ensures f c.args.class h) ∙ c.if-single.false) c.round.ensures c.next-star-row.ensures.counted c.put.ensures c.put-2.ensures (c.form-next.ensures f h) c.put-3.ensures c.put-4.ensures (c.stay.ensures 0)
+star-returns t c f h = loop_walks c.args.class c.form-next.result c.next_star-row.result c.args.place c.round.result c.args.self.now c.next_star-row.new.self c.put.new.self c.put-2.new.self c.form-next.new.self c.put-3.new.self c.put-4.new.self c.stay.new.self f c.next_star-row.ensures.number (sym (c.single.ensures f c.args.class h) ∙ c.if-single.false) c.round.ensures c.next_star-row.ensures.counted c.put.ensures c.put-2.ensures (c.form-next.ensures f h) c.put-3.ensures c.put-4.ensures (c.stay.ensures 0)
 
 pub repeat-returns-then-least-most : goal.repeat-returns-then-least-most
 repeat-returns-then-least-most t c f h = falling_walks c.args.class c.leaf.result c.args.place c.args.self.now c.leaf.new.self _ _ f (omega arith) c.leaf.ensures
@@ -76,13 +76,13 @@ pub repeat-returns-then-most-eq0 : goal.repeat-returns-then-most-eq0
 repeat-returns-then-most-eq0 t c f h = never_walks c.args.class c.args.place c.args.self.now c.stay.new.self _ _ f (omega arith) (omega arith) (c.stay.ensures c.args.place.depth)
 
 pub repeat-returns : goal.repeat-returns
-repeat-returns t c f h = repeat_walks c.args.class c.up-to.result c.copies-next.result c.args.place c.ahead.result c.behind.result c.both-first.result c.empty-skipped.result c.args.self.now c.copies-next.new.self c.up-to.new.self _ _ f c.optional.result c.optional.ensures (omega arith) (λ z. omega arith) (c.empty-skipped.ensures f c.args.class h) (c.both-first.ensures ∙ ap (λ b. c.args.place.first && b) c.skips.ensures) c.ahead.ensures c.behind.ensures (c.copies-next.ensures f h (c.empty-skipped.ensures f c.args.class h)) (c.up-to.ensures f h (c.empty-skipped.ensures f c.args.class h))
+repeat-returns t c f h = repeat_walks c.args.class c.up_to.result c.copies-next.result c.args.place c.ahead.result c.behind.result c.both-first.result c.empty-skipped.result c.args.self.now c.copies-next.new.self c.up_to.new.self _ _ f c.optional.result c.optional.ensures (omega arith) (λ z. omega arith) (c.empty-skipped.ensures f c.args.class h) (c.both-first.ensures ∙ ap (λ b. c.args.place.first && b) c.skips.ensures) c.ahead.ensures c.behind.ensures (c.copies-next.ensures f h (c.empty-skipped.ensures f c.args.class h)) (c.up_to.ensures f h (c.empty-skipped.ensures f c.args.class h))
 
 pub copies-returns : goal.copies-returns
 copies-returns t c f h e is few = copy_walks c.args.class c.copies.result c.args.next c.form-next.result c.args.left c.args.place c.ahead.result c.behind.result c.args.skipped f (λ z. omega arith) e few c.both-last.result c.both-first.result c.args.self.now c.form-next.new.self c.copies.new.self (c.both-last.ensures ∙ ap (λ b. c.args.place.last && b) c.skips.ensures) c.both-first.ensures is c.ahead.ensures c.behind.ensures (c.form-next.ensures f h) (λ o. c.copies.ensures f h e o few)
 
-pub up-to-returns-in-Some : goal.up-to-returns-in-Some
-up-to-returns-in-Some t c f h e few = option_into c.args.class c.up-to.result c.args.next c.form-next.result c.args.left c.args.place c.ahead.result c.behind.result c.args.skipped f (λ z. omega arith) e few c.in-Some.row c.both-first.result c.put.new.self c.form-next.new.self c.up-to.new.self c.both-first.ensures c.ahead.ensures (c.behind.ensures ∙ (λ i. record { first = c.both-first.result; last = c.args.place.last; into = c.in-Some.is i; depth = c.args.place.depth })) (c.form-next.ensures f h) (c.up-to.ensures f h e few) c.args.self.now c.in-Some.is c.put.ensures
+pub up_to-returns-in-Some : goal.up_to-returns-in-Some
+up_to-returns-in-Some t c f h e few = option_into c.args.class c.up_to.result c.args.next c.form-next.result c.args.left c.args.place c.ahead.result c.behind.result c.args.skipped f (λ z. omega arith) e few c.in-Some.row c.both-first.result c.put.new.self c.form-next.new.self c.up_to.new.self c.both-first.ensures c.ahead.ensures (c.behind.ensures ∙ (λ i. record { first = c.both-first.result; last = c.args.place.last; into = c.in-Some.is i; depth = c.args.place.depth })) (c.form-next.ensures f h) (c.up_to.ensures f h e few) c.args.self.now c.in-Some.is c.put.ensures
 
-pub up-to-returns-in-None : goal.up-to-returns-in-None
-up-to-returns-in-None t c f h e few = option_on c.args.class c.up-to-next.result c.args.next c.form-next-in-None.result c.args.left c.args.place c.ahead-in-None.result c.gathered-place.result c.args.skipped f (λ z. omega arith) e few c.next-gather-row.result c.both-first.result c.put-in-None.new.self c.form-next-in-None.new.self c.up-to-next.new.self c.both-first.ensures c.ahead-in-None.ensures (c.gathered-place.ensures ∙ (λ i. record { first = (c.behind-in-None.ensures i).first; last = (c.behind-in-None.ensures i).last; into = Some c.next-gather-row.result; depth = (c.behind-in-None.ensures i).depth })) (c.form-next-in-None.ensures f h) (c.up-to-next.ensures f h e few) c.args.self.now c.next-gather-row.new.self c.put-in-None-2.new.self c.next-gather-row.ensures.number c.in-None.is c.next-gather-row.ensures.counted c.put-in-None.ensures c.put-in-None-2.ensures
+pub up_to-returns-in-None : goal.up_to-returns-in-None
+up_to-returns-in-None t c f h e few = option_on c.args.class c.up_to-next.result c.args.next c.form-next-in-None.result c.args.left c.args.place c.ahead-in-None.result c.gathered-place.result c.args.skipped f (λ z. omega arith) e few c.next_gather-row.result c.both-first.result c.put-in-None.new.self c.form-next-in-None.new.self c.up_to-next.new.self c.both-first.ensures c.ahead-in-None.ensures (c.gathered-place.ensures ∙ (λ i. record { first = (c.behind-in-None.ensures i).first; last = (c.behind-in-None.ensures i).last; into = Some c.next_gather-row.result; depth = (c.behind-in-None.ensures i).depth })) (c.form-next-in-None.ensures f h) (c.up_to-next.ensures f h e few) c.args.self.now c.next_gather-row.new.self c.put-in-None-2.new.self c.next_gather-row.ensures.number c.in-None.is c.next_gather-row.ensures.counted c.put-in-None.ensures c.put-in-None-2.ensures

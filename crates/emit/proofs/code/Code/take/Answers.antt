@@ -6,8 +6,8 @@ pub returns : goal.returns
 returns c few d =
     let b = c.args.stretched in
     let n = c.args.class in
-    let at = c.saturating-add-class.ensures in
+    let at = c.saturating_add-class.ensures in
     leaf_writes d _ c.taking.result _ _ _ _ c.args.into (take-leaves b n) (take-stars b n) (take-unions b n) (take_own b n)
-    (take_steps n _ _ _ (omega arith) c.next-carry-carry.ensures.number b _ _ _ d c.taking.ensures)
-    (λ r. take-into n _ _ _ (omega arith) c.next-carry-carry.ensures.number b _ _ _ d r c.taking.ensures)
-    c.next-carry-carry.ensures.counted c.put.ensures (c.stay.ensures d)
+    (take_steps n _ _ _ (omega arith) c.next_carry-carry.ensures.number b _ _ _ d c.taking.ensures)
+    (λ r. take-into n _ _ _ (omega arith) c.next_carry-carry.ensures.number b _ _ _ d r c.taking.ensures)
+    c.next_carry-carry.ensures.counted c.put.ensures (c.stay.ensures d)

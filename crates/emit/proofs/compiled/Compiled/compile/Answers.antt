@@ -1,7 +1,7 @@
-use Rattle.std.proofs.Common.{◌≡◌, ℕ, ◌+◌, ◌≤◌, ◌++◌, length, sym, refl, ap, ◌∙◌, arith}
+use Rattle.std.proofs.Common.{◌≡◌, ◌+◌, ◌++◌, length, ap, ◌∙◌, arith}
 use Rattle.theory.specs.Passes.{stars}
 use Rattle.theory.specs.Written.{written}
-use Rattle.program.specs.Compile.{stars_at, program}
+use Rattle.program.specs.Compile.{stars_at}
 use Rattle.program.specs.Sizes.{class_count, form_program}
 use Rattle.program.proofs.Sizes.{form_rows_lem}
 use Rattle.classes.proofs.Adding.{are_long}
@@ -13,7 +13,7 @@ returns c F h light =
     let filled = c.fill.ensures F h light in
     let count : length c.sets-classes.result.now ≡ class_count F = ap length c.sets-classes.ensures ∙ are_long _ _ filled in
     let rows = form_rows_lem F in
-    let first : c.saturating-add-first.result ≡ stars_at (class_count F) = c.saturating-add-first.ensures ∙ omega arith in
+    let first : c.saturating_add-first.result ≡ stars_at (class_count F) = c.saturating_add-first.ensures ∙ omega arith in
     let w₁ =
     whole F c.form.result 0 c.outermost.result c.begin.new.self c.form.new.self light c.outermost.ensures c.begin.ensures.steps c.begin.ensures.carry
     (c.begin.ensures.star ∙ first) c.begin.ensures.gather (omega arith) (c.form.ensures F h) in
@@ -26,7 +26,7 @@ returns c F h light =
       program = w₂.written ∙ ap (λ l. l ++ form_program F) c.begin-2.ensures.steps;
       sets = filled;
       classes = count;
-      stars = c.saturating-sub.ensures ∙ omega arith;
+      stars = c.saturating_sub.ensures ∙ omega arith;
       carries = c.carries.ensures ∙ w₂.carries ∙ omega (arith, c.begin-2.ensures.carry);
       rows = c.gathers.ensures ∙ w₂.gathering ∙ omega (arith, c.begin-2.ensures.gather);
     }

@@ -1,12 +1,11 @@
-use Rattle.std.proofs.Common.{◌≡◌, ℕ, ◌<◌, ◌≤◌, Bool, List, length, get_or, vec_items, sym, refl, ap, ◌∙◌, subst, arith}
+use Rattle.std.proofs.Common.{◌≡◌, ℕ, ◌<◌, ◌≤◌, List, length, get_or, vec_items, refl, ap, ◌∙◌, subst, arith}
 use Rattle.block.specs.Rows.{bit}
 use Rattle.block.specs.Calls.{widest}
 use Rattle.form.specs.Form.{Form}
 use Rattle.stream.specs.Tables.{rows}
 use Rattle.stream.specs.declared.set.ByteSet.{ByteSet}
-use Rattle.machine.specs.Matching.{Runs, Keeps, Matched}
+use Rattle.machine.specs.Matching.{Runs, Matched}
 use Rattle.machine.specs.Ruling.{Rules}
-use Rattle.machine.specs.declared.loaded.Matcher.{Matcher}
 use Rattle.machine.proofs.Ready.{matches_full, matches_last, kept_runs}
 use Rattle.machine.proofs.loaded.Matcher.match_block.Goals as goal
 
@@ -16,10 +15,10 @@ returns-then-piece-width g c =
     let w = g.B.Block.places in
     let m = c.args.self.now in
     let piece = c.args.piece.now in
-    let A = c.in-ok-agree.ensures in
+    let A = c.in_ok-agree.ensures in
     let some = g.met.B.Block.some in
-    let S = c.in-ok-feeds.ensures in
-    let byte : (i : ℕ) → get_or piece i 0 < 256 = λ i. let f = c.type-inv.piece i in omega arith in
+    let S = c.in_ok-feeds.ensures in
+    let byte : (i : ℕ) → get_or piece i 0 < 256 = λ i. let f = c.type_inv.piece i in omega arith in
     let table = rows row c.rule.new.blocks in
     let R = subst (λ (s : List ByteSet). Rules w piece m.starts s table) c.sets.ensures S.0 in
     let K = c.run-ends.ensures.keeps in
@@ -33,7 +32,7 @@ returns-then-piece-width g c =
       S.1,
       matches_full piece w (omega arith) m byte table R (row c.run-ends.result) (g.met.B.Block.wide _) _ c.run-ends.ensures.found full _
           record { tree = K.tree; root = K.root; weight = K.weight; compiled = K.compiled; sizes = K.sizes }
-          c.in-ok-feeds.behind S.2 (ap (λ v. bit (vec_items v)) c.swap.ensures.x-after) refl,
+          c.in_ok-feeds.behind S.2 (ap (λ v. bit (vec_items v)) c.swap.ensures.x_after) refl,
     )
 
 pub returns : goal.returns
@@ -42,10 +41,10 @@ returns g c =
     let w = g.B.Block.places in
     let m = c.args.self.now in
     let piece = c.args.piece.now in
-    let A = c.in-ok-agree.ensures in
+    let A = c.in_ok-agree.ensures in
     let some = g.met.B.Block.some in
-    let S = c.in-ok-feeds.ensures in
-    let byte : (i : ℕ) → get_or piece i 0 < 256 = λ i. let f = c.type-inv.piece i in omega arith in
+    let S = c.in_ok-feeds.ensures in
+    let byte : (i : ℕ) → get_or piece i 0 < 256 = λ i. let f = c.type_inv.piece i in omega arith in
     let table = rows row c.rule.new.blocks in
     let R = subst (λ (s : List ByteSet). Rules w piece m.starts s table) c.sets.ensures S.0 in
     let K = c.run-ends.ensures.keeps in

@@ -8,7 +8,7 @@ pub returns : goal.returns
 unfolding bit
 returns c =
     let m = c.args.self.now in
-    let lent = c.as-mut-slice.ensures.len in
+    let lent = c.as_mut_slice.ensures.len in
     let kept : length c.forget.new.carries ≡ m.ins.len = omega arith in
     let ins = with_items_is m.ins c.forget.new.carries kept in
     record {

@@ -23,4 +23,4 @@ pub returns : goal.returns
 returns g c =
     ended g.B.Block.row (answered g.B.Block.places) c.args.ends c.args.lines.now c.args.table.now c.args.count
     c.loop-p.lines c.loop-p.at c.loop-p.table c.loop-p.count c.loop-p.invariant
-    c.finish.new.self c.finish.ensures c.in-default.ensures
+    c.finish.new.self c.finish.ensures c.in_default.ensures

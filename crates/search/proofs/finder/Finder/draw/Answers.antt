@@ -1,4 +1,4 @@
-use Rattle.std.proofs.Common.{◌≡◌, ℕ, ◌<◌, ◌≤◌, Bool, true, false, not, ◌&&◌, eqb, ◌⊎◌, List, [], sym, refl, ap, ◌∙◌, subst, inl, inr, arith}
+use Rattle.std.proofs.Common.{◌≡◌, ℕ, ◌<◌, ◌≤◌, true, false, ◌⊎◌, sym, refl, ap, ◌∙◌, subst, inl, inr, arith}
 use Rattle.std.proofs.lemmas.Bool.{false≢true}
 use Rattle.block.specs.Rows.{bit}
 use Rattle.block.proofs.Rows.{bit_at}
@@ -8,8 +8,8 @@ use Rattle.search.specs.Finding.{padded, ends_in}
 use Rattle.search.proofs.Finding.{ends_read, ends_written, dry, held, first, handed, never_past, cleared_bits}
 use Rattle.search.proofs.finder.Finder.draw.Goals as goal
 
-pub returns-in-default : goal.returns-in-default
-returns-in-default g c = (
+pub returns-in_default : goal.returns-in_default
+returns-in_default g c = (
   record { matcher = refl; ends = refl; lines = refl; matched = refl },
   λ F m hs ws X.
       let row = g.B.Block.row in
@@ -18,12 +18,12 @@ returns-in-default g c = (
       let x = c.args.self.now in
       let e = ends_read row w pos x c.index.result.now c.index.ensures in
       let n = X.narrow in
-      dry row w pos x F m hs ws X (λ i l. ap (λ r. bit r i) e ∙ c.in-default.ensures i (omega arith) (omega arith)),
+      dry row w pos x F m hs ws X (λ i l. ap (λ r. bit r i) e ∙ c.in_default.ensures i (omega arith) (omega arith)),
 )
 
-pub returns-in-default-place : goal.returns-in-default-place
-returns-in-default-place g c =
-    let P = c.in-default-place.ensures in (
+pub returns-in_default-place : goal.returns-in_default-place
+returns-in_default-place g c =
+    let P = c.in_default-place.ensures in (
       record { matcher = refl; ends = refl; lines = P.1; matched = refl },
       λ F m hs ws X.
           let row = g.B.Block.row in

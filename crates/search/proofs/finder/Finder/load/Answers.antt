@@ -1,4 +1,4 @@
-use Rattle.std.proofs.Common.{ℕ, ◌<◌, ◌≤◌, sym, refl, subst, arith}
+use Rattle.std.proofs.Common.{◌<◌, ◌≤◌, sym, subst, arith}
 use native.Mathlib.Nat.{zero-mod}
 use Rattle.limits.specs.Limits.{widest_kind}
 use Rattle.machine.specs.Matching.{Loaded, Matched}
@@ -9,9 +9,9 @@ use Rattle.search.proofs.finder.Finder.load.Goals as goal
 pub returns : goal.returns
 returns g c =
     let w = g.B.Block.places in
-    let k = c.in-ok-load.ensures in
+    let k = c.in_ok-load.ensures in
     let width = c.width.ensures in
-    let test = c.if-width-gt-WIDEST-KIND.false in
+    let test = c.if-width-gt-WIDEST_KIND.false in
     let narrow : w ≤ widest_kind = omega arith in
     let m = c.forget.ensures.matcher in
     let pos : 0 < w = let p = g.met.B.Block.some in omega arith in (

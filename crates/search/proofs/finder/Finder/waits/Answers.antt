@@ -11,5 +11,5 @@ returns g c F m hs ws X =
     let x = c.args.self.now in
     let e = ends_read row w pos x c.index.result.now c.index.ensures in
     let n = X.narrow in
-    c.is-some.ensures
+    c.is_some.ensures
     ∙ waits_some row w pos x F m hs ws X (omega arith) c.first.result (subst (λ (r : List Bool). First w r 0 c.first.result) (sym e) c.first.ensures)

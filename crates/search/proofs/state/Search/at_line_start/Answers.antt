@@ -1,4 +1,4 @@
-use Rattle.std.proofs.Common.{◌≡◌, ◌-◌, ◌<◌, sym, ap, ◌∙◌, arith}
+use Rattle.std.proofs.Common.{◌-◌, ◌<◌, ◌∙◌, arith}
 use Rattle.search.proofs.Entering.{last_gathered, gathered_wide, take_read}
 use Rattle.search.proofs.state.Search.at_line_start.Goals as goal
 

@@ -1,6 +1,4 @@
-use Rattle.std.proofs.Common.{◌≡◌, ℕ, ◌+◌, ◌<◌, ◌≤◌, List, ◌++◌, length, take, sym, refl, ap, ◌∙◌, subst, arith, length-append}
-use Rattle.block.specs.Calls.{answered}
-use Rattle.limits.specs.Limits.{widest_kind}
+use Rattle.std.proofs.Common.{◌≡◌, ◌+◌, ◌<◌, ◌++◌, length, take, sym, refl, ap, ◌∙◌, subst, arith}
 use Rattle.search.specs.Finding.{MatchesMore}
 use Rattle.search.specs.Telling.{gathered_of}
 use Rattle.search.specs.declared.finder.Finder.{Finder}
@@ -21,9 +19,9 @@ returns-then-alone g c =
           let n = R.finds.narrow in
           let size : length part ≡ w = let b = a.1 in omega arith in
           let none = a.0 in
-          let taken : c.saturating-add-self.result ≡ s.taken + length part = let e = c.saturating-add-self.ensures in let t = R.taken in omega arith in
+          let taken : c.saturating_add-self.result ≡ s.taken + length part = let e = c.saturating_add-self.ensures in let t = R.taken in omega arith in
           entered_full row w pos s _ part (length c.args.blocks.now) F bytes hs R some room enough far part size
-          (ap (λ k. take k s.gathered.items ++ part) (sym none)) c.match-more.result c.match-more.ensures none taken;
+          (ap (λ k. take k s.gathered.items ++ part) (sym none)) c.match_more.result c.match_more.ensures none taken;
     }
 
 pub returns-then-self-width : goal.returns-then-self-width
@@ -42,7 +40,7 @@ returns-then-self-width g c =
           let k = G.kept (omega arith) in
           let width = c.width.ensures in
           let test = c.if-self-width.true in
-          let taken : u.taken ≡ s.taken + length part = let e = c.saturating-add-self.ensures in let t = R.taken in let f = R.few in let q = G.taken in omega arith in
+          let taken : u.taken ≡ s.taken + length part = let e = c.saturating_add-self.ensures in let t = R.taken in let f = R.few in let q = G.taken in omega arith in
           entered_part row w pos s u part (length c.args.blocks.now) F bytes hs R some room enough far G.finder k.1 k.0 (omega arith)
           (gathered_wide row w pos u) taken;
     }
@@ -54,10 +52,10 @@ returns g c =
     let pos : 0 < w = let p = g.met.B.Block.some in omega arith in
     let s = c.args.self.now in
     let v = c.gather.new.self in
-    let u = c.match-gathered.new.self in
+    let u = c.match_gathered.new.self in
     let part = c.args.part.now in
     let G = c.gather.ensures in
-    let M = c.match-gathered.ensures in
+    let M = c.match_gathered.ensures in
     record {
       state = M.state ∙ G.state;
       on = λ F bytes hs R some room enough far.
@@ -66,7 +64,7 @@ returns g c =
           let width = c.width.ensures in
           let test = c.if-self-width.false in
           let size : length (gathered_of row w v) ≡ w = let l = k.0 in omega (arith, gathered_wide row w pos v) in
-          let taken : u.taken ≡ s.taken + length part = let e = c.saturating-add-self.ensures in let t = R.taken in let f = R.few in let q = G.taken in let r = M.taken in omega arith in
-          entered_full row w pos s u part (length c.args.blocks.now) F bytes hs R some room enough far (gathered_of row w v) size k.1 c.match-gathered.result
-          (subst (λ (x : Finder _). MatchesMore row w x u.finder (gathered_of row w v) (length c.args.blocks.now) c.match-gathered.result) G.finder M.finder) M.fill taken;
+          let taken : u.taken ≡ s.taken + length part = let e = c.saturating_add-self.ensures in let t = R.taken in let f = R.few in let q = G.taken in let r = M.taken in omega arith in
+          entered_full row w pos s u part (length c.args.blocks.now) F bytes hs R some room enough far (gathered_of row w v) size k.1 c.match_gathered.result
+          (subst (λ (x : Finder _). MatchesMore row w x u.finder (gathered_of row w v) (length c.args.blocks.now) c.match_gathered.result) G.finder M.finder) M.fill taken;
     }

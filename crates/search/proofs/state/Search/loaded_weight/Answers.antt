@@ -1,4 +1,4 @@
-use Rattle.std.proofs.Common.{◌≡◌, ℕ, ◌<◌, sym, refl, ap, ◌∙◌, subst, inl, inr, arith}
+use Rattle.std.proofs.Common.{◌≡◌, ◌<◌, sym, ap, ◌∙◌, inl, inr, arith}
 use Rattle.history.specs.Calls as history
 use Rattle.history.specs.Rules.{weighs}
 use Rattle.search.proofs.Performing.{says_weight, refused_empty, state_open, state_closed, is_running, is_ended}

@@ -1,7 +1,7 @@
-use Rattle.std.proofs.Common.{◌≡◌, ℕ, ◌<◌, ◌≤◌, Bool, true, false, ltb, None, sym, refl, ap, ◌∙◌, arith}
+use Rattle.std.proofs.Common.{◌≡◌, Bool, true, false, ltb, None, sym, ap, ◌∙◌, arith}
 use Rattle.std.proofs.lemmas.Bool.{lt-ltb, le-ltb}
 use Rattle.refusal.specs.declared.Refusal.TheVariants.{EndsWaiting, TooFewBlocks}
-use Rattle.limits.specs.Limits.{goal as blocks_for}
+use Rattle.limits.specs.Limits.{need as blocks_for}
 use Rattle.form.specs.Form.{weight}
 use Rattle.history.specs.Rules.{check, some}
 use Rattle.search.specs.Telling.{as_result}
@@ -12,15 +12,15 @@ returns-then-waits g c F bytes hs ws R =
     let e : some ws ≡ true = sym (c.waits.ensures F R.matched hs ws R.finds) ∙ c.if-waits.true in
     sym (ap (λ (b : Bool). as_result (check b EndsWaiting (check (ltb c.args.blocks (blocks_for (weight F))) TooFewBlocks None))) e)
 
-pub returns-then-blocks-saturating-add : goal.returns-then-blocks-saturating-add
-returns-then-blocks-saturating-add g c F bytes hs ws R =
+pub returns-then-blocks-saturating_add : goal.returns-then-blocks-saturating_add
+returns-then-blocks-saturating_add g c F bytes hs ws R =
     let e : some ws ≡ false = sym (c.waits.ensures F R.matched hs ws R.finds) ∙ c.if-waits.false in
     let n : c.weight-weight.result ≡ weight F = c.weight-weight.ensures ∙ R.finds.loaded.weighs in
     let light = c.args.self.now.finder.matcher.light in
     let own = R.finds.loaded.weighs in
-    let mul = c.saturating-mul.ensures in
-    let add = c.saturating-add.ensures in
-    let test = c.if-blocks-saturating-add.true in
+    let mul = c.saturating_mul.ensures in
+    let add = c.saturating_add.ensures in
+    let test = c.if-blocks-saturating_add.true in
     let few : ltb c.args.blocks (blocks_for (weight F)) ≡ true = lt-ltb c.args.blocks (blocks_for (weight F)) (omega arith) in
     sym (λ i. as_result (check (e i) EndsWaiting (check (few i) TooFewBlocks None)))
 
@@ -30,8 +30,8 @@ returns g c F bytes hs ws R =
     let n : c.weight-weight.result ≡ weight F = c.weight-weight.ensures ∙ R.finds.loaded.weighs in
     let light = c.args.self.now.finder.matcher.light in
     let own = R.finds.loaded.weighs in
-    let mul = c.saturating-mul.ensures in
-    let add = c.saturating-add.ensures in
-    let test = c.if-blocks-saturating-add.false in
+    let mul = c.saturating_mul.ensures in
+    let add = c.saturating_add.ensures in
+    let test = c.if-blocks-saturating_add.false in
     let enough : ltb c.args.blocks (blocks_for (weight F)) ≡ false = le-ltb c.args.blocks (blocks_for (weight F)) (omega arith) in
     sym (λ i. as_result (check (e i) EndsWaiting (check (enough i) TooFewBlocks None)))

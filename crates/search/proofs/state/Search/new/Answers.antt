@@ -5,4 +5,4 @@ use Rattle.search.proofs.state.Search.new.Goals as goal
 
 pub returns : goal.returns
 returns g c =
-    newborn g.B.Block.row g.B.Block.places (let p = g.met.B.Block.some in omega arith) _ start refl c.in-ok-finder.ensures refl
+    newborn g.B.Block.row g.B.Block.places (let p = g.met.B.Block.some in omega arith) _ start refl c.in_ok-finder.ensures refl

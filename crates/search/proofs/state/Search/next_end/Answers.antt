@@ -1,4 +1,4 @@
-use Rattle.std.proofs.Common.{◌≡◌, refl, subst, arith}
+use Rattle.std.proofs.Common.{refl, arith}
 use Rattle.search.proofs.Performing.{draw_found, draw_none}
 use Rattle.search.proofs.state.Search.next_end.Goals as goal
 

@@ -1,4 +1,4 @@
-use Rattle.std.proofs.Common.{◌≡◌, ℕ, ◌<◌, length, sym, subst, arith}
+use Rattle.std.proofs.Common.{◌<◌, length, sym, subst, arith}
 use Rattle.refusal.specs.declared.Refusal.TheVariants.{SearchEmpty, SearchClosed}
 use Rattle.history.specs.Calls as history
 use Rattle.search.specs.Telling.{Performs, asked, said, told}
@@ -6,13 +6,13 @@ use Rattle.search.specs.declared.calls.Call.{Call}
 use Rattle.search.proofs.Performing.{empty_rewind, empty_feed, empty_close, closed_feed, closed_close}
 use Rattle.search.proofs.state.Search.perform.Goals as goal
 
-pub returns-in-default-Load : goal.returns-in-default-Load
-returns-in-default-Load g c h T =
+pub returns-in_default-Load : goal.returns-in_default-Load
+returns-in_default-Load g c h T =
     let row = g.B.Block.row in
     let w = g.B.Block.places in
     let s = c.args.self.now in
     let old = c.args.blocks.now in
-    subst (λ (k : Call). Performs row w s c.take-text.new.self old old h (asked k (length old)) (told row c.take-text.result)) (sym c.in-default-Load.is-1) (c.take-text.ensures h old T)
+    subst (λ (k : Call). Performs row w s c.take_text.new.self old old h (asked k (length old)) (told row c.take_text.result)) (sym c.in_default-Load.is-1) (c.take_text.ensures h old T)
 
 pub returns-in-Open-Rewind : goal.returns-in-Open-Rewind
 returns-in-Open-Rewind g c h T =
@@ -28,7 +28,7 @@ returns-in-Open-Feed g c h T =
     let w = g.B.Block.places in
     let s = c.args.self.now in
     let old = c.args.blocks.now in
-    subst (λ (k : Call). Performs row w s c.take-piece.new.self old c.take-piece.new.blocks h (asked k (length old)) (told row c.take-piece.result)) (sym c.in-Open-Feed.is-1) (c.take-piece.ensures h T)
+    subst (λ (k : Call). Performs row w s c.take_piece.new.self old c.take_piece.new.blocks h (asked k (length old)) (told row c.take_piece.result)) (sym c.in-Open-Feed.is-1) (c.take_piece.ensures h T)
 
 pub returns-in-Open-Close : goal.returns-in-Open-Close
 returns-in-Open-Close g c h T =
@@ -38,37 +38,37 @@ returns-in-Open-Close g c h T =
     let old = c.args.blocks.now in
     subst (λ (k : Call). Performs row w s c.end.new.self old c.end.new.blocks h (asked k (length old)) (told row c.end.result)) (sym c.in-Open-Close.is-1) (c.end.ensures h T)
 
-pub returns-in-default-Draw : goal.returns-in-default-Draw
-returns-in-default-Draw g c h T =
+pub returns-in_default-Draw : goal.returns-in_default-Draw
+returns-in_default-Draw g c h T =
     let row = g.B.Block.row in
     let w = g.B.Block.places in
     let s = c.args.self.now in
     let old = c.args.blocks.now in
-    subst (λ (k : Call). Performs row w s c.next-end.new.self old old h (asked k (length old)) (said row c.next-end.result)) (sym c.in-default-Draw.is-1) (c.next-end.ensures h old T)
+    subst (λ (k : Call). Performs row w s c.next_end.new.self old old h (asked k (length old)) (said row c.next_end.result)) (sym c.in_default-Draw.is-1) (c.next_end.ensures h old T)
 
-pub returns-in-default-Taken : goal.returns-in-default-Taken
-returns-in-default-Taken g c h T =
+pub returns-in_default-Taken : goal.returns-in_default-Taken
+returns-in_default-Taken g c h T =
     let row = g.B.Block.row in
     let w = g.B.Block.places in
     let s = c.args.self.now in
     let old = c.args.blocks.now in
-    subst (λ (k : Call). Performs row w s s old old h (asked k (length old)) (history.count c.taken-bytes.result)) (sym c.in-default-Taken.is-1) (c.taken-bytes.ensures h old T)
+    subst (λ (k : Call). Performs row w s s old old h (asked k (length old)) (history.count c.taken_bytes.result)) (sym c.in_default-Taken.is-1) (c.taken_bytes.ensures h old T)
 
-pub returns-in-default-Weight : goal.returns-in-default-Weight
-returns-in-default-Weight g c h T =
+pub returns-in_default-Weight : goal.returns-in_default-Weight
+returns-in_default-Weight g c h T =
     let row = g.B.Block.row in
     let w = g.B.Block.places in
     let s = c.args.self.now in
     let old = c.args.blocks.now in
-    subst (λ (k : Call). Performs row w s s old old h (asked k (length old)) (history.count c.loaded-weight.result)) (sym c.in-default-Weight.is-1) (c.loaded-weight.ensures h old T)
+    subst (λ (k : Call). Performs row w s s old old h (asked k (length old)) (history.count c.loaded_weight.result)) (sym c.in_default-Weight.is-1) (c.loaded_weight.ensures h old T)
 
-pub returns-in-default-Waiting : goal.returns-in-default-Waiting
-returns-in-default-Waiting g c h T =
+pub returns-in_default-Waiting : goal.returns-in_default-Waiting
+returns-in_default-Waiting g c h T =
     let row = g.B.Block.row in
     let w = g.B.Block.places in
     let s = c.args.self.now in
     let old = c.args.blocks.now in
-    subst (λ (k : Call). Performs row w s s old old h (asked k (length old)) (history.shown (row c.last-block.result))) (sym c.in-default-Waiting.is-1) (c.last-block.ensures h old T)
+    subst (λ (k : Call). Performs row w s s old old h (asked k (length old)) (history.shown (row c.last_block.result))) (sym c.in_default-Waiting.is-1) (c.last_block.ensures h old T)
 
 pub returns-in-Empty-Rewind : goal.returns-in-Empty-Rewind
 returns-in-Empty-Rewind g c h T =

@@ -1,11 +1,10 @@
-use Rattle.std.proofs.Common.{◌≡◌, ℕ, ◌+◌, ◌-◌, ◌<◌, ◌≤◌, Bool, List, [], length, take, drop, Ok, sym, refl, ap, ◌∙◌, subst, arith}
-use Rattle.limits.specs.Limits.{widest_kind}
+use Rattle.std.proofs.Common.{◌≡◌, ℕ, ◌+◌, ◌-◌, ◌<◌, Bool, length, take, drop, Ok, ap, ◌∙◌, subst, arith}
 use Rattle.search.specs.Entering.{Enters}
 use Rattle.search.proofs.Entering.{stopped, going, arrived, gathered_wide, step, not_both}
 use Rattle.search.proofs.state.Search.take.Goals as goal
 
-pub returns-in-err-stop : goal.returns-in-err-stop
-returns-in-err-stop g c =
+pub returns-in_err-stop : goal.returns-in_err-stop
+returns-in_err-stop g c =
     let row = g.B.Block.row in
     let w = g.B.Block.places in
     let pos : 0 < w = let p = g.met.B.Block.some in omega arith in
@@ -28,7 +27,7 @@ returns-in-err-stop g c =
           let fits = c.room.ensures.fits G.0.finds.narrow G.0.short in
           let y = step row w pos F bytes hs piece s u a n (length c.loop-at.blocks) G (omega arith) (omega arith) (omega arith) (gathered_wide row w pos s) (omega arith) far
           c.enter.result E in
-          absurd (not_both c.enter.result _ _ y.1 c.in-err-stop.was);
+          absurd (not_both c.enter.result _ _ y.1 c.in_err-stop.was);
     }
 
 pub returns-then-stop : goal.returns-then-stop
@@ -54,7 +53,7 @@ returns-then-stop g c =
           let G = I.2 F bytes hs R enough far in
           let fits = c.room.ensures.fits G.0.finds.narrow G.0.short in
           stopped row w pos F bytes hs piece s u a n (length c.loop-at.blocks) G (omega arith) (omega arith) (omega arith) (gathered_wide row w pos s) (omega arith) far
-          c.enter.result E (c.in-ok-stop.was ∙ ap (λ (b : Bool). Ok b) c.if-stop.true);
+          c.enter.result E (c.in_ok-stop.was ∙ ap (λ (b : Bool). Ok b) c.if-stop.true);
     }
 
 pub loop-at-preserved : goal.loop-at-preserved
@@ -80,7 +79,7 @@ loop-at-preserved g c =
           let G = I.2 F bytes hs R enough far in
           let fits = c.room.ensures.fits G.0.finds.narrow G.0.short in
           going row w pos F bytes hs piece s u a n (length c.loop-at.blocks) G (omega arith) (omega arith) (omega arith) (gathered_wide row w pos s) (omega arith) far
-          c.enter.result E (c.in-ok-stop.was ∙ ap (λ (b : Bool). Ok b) c.if-stop.false),
+          c.enter.result E (c.in_ok-stop.was ∙ ap (λ (b : Bool). Ok b) c.if-stop.false),
     )
 
 pub returns : goal.returns

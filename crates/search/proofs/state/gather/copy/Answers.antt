@@ -1,5 +1,4 @@
-use Rattle.std.proofs.Common.{◌≡◌, ◌+◌, length, get_or, set, ap, ◌∙◌, arith}
-use lib.Seq.{paste}
+use Rattle.std.proofs.Common.{◌+◌, get_or, set, ap, ◌∙◌, arith}
 use Rattle.std.proofs.lemmas.List.Edits.{paste_none, paste_more}
 use Rattle.search.proofs.state.gather.copy.Goals as goal
 
