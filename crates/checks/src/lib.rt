@@ -7,6 +7,7 @@ use block::Block;
 use flash::{Flashes, list_flashes};
 use refusal::{End, Refusal};
 use std::alloc::{AllocError, Global};
+use std::test::Fail;
 use stream::{BASIS, ByteSet, back, class, match_star, transpose};
 
 // What the stream calls find in one block of samples, by places.
@@ -16,72 +17,35 @@ pub struct Found {
     pub lit: Vec<usize>,
     // What the first lit sample, if the first sample is dark, and the carry reach through lit samples.
     pub reached: Vec<usize>,
-    // Whether the bytes came back.
-    pub same: bool,
+    // The bytes, transposed back.
+    pub bytes: Vec<u8>,
 }
 
 // A table of blocks for the basis.
 pub fn blocks<B: Block>(heap: Global) -> Result<Vec<B>, AllocError> {
-    let mut table = Vec::new(heap);
-    for _ in 0..BASIS {
-        table.push(B::none())?;
-    }
-    Ok(table)
+    vec![in heap; B::none(); BASIS]
 }
 
 // The places below `n` that hold a one.
 pub fn places<B: Block>(heap: Global, block: B, n: usize) -> Result<Vec<usize>, AllocError> {
-    let mut found = Vec::new(heap);
-    for p in 0..n {
-        if let Some(q) = block.first(p) {
-            if q == p {
-                found.push(p)?;
-            }
-        }
-    }
-    Ok(found)
+    (0..n).filter(|p| block.first(*p) == Some(*p)).collect(heap)
 }
 
 // Transposes the samples, makes classes of them, matches and transposes back.
-pub fn exercise<B: Block>(heap: Global, samples: &[u8], carry: bool) -> Result<Found, Fault> {
+pub fn exercise<B: Block>(heap: Global, samples: &[u8], carry: bool) -> Result<Found, Fail> {
     let mut table = blocks::<B>(heap)?;
-    transpose(samples, table.as_mut_slice())?;
-    let lit = class(table.as_slice(), ByteSet::none().with(b'#'))?;
-    let dark = class(table.as_slice(), ByteSet::none().with(b'.'))?;
+    transpose(samples, &mut table)?;
+    let lit = class(&table, ByteSet::none().with(b'#'))?;
+    let dark = class(&table, ByteSet::none().with(b'.'))?;
     let (after_dark, _) = dark.advance(false);
     let (reached, _) = match_star(after_dark.and(lit), lit, carry);
-    let mut again = vec![in heap; 0u8; samples.len()]?;
-    back(table.as_slice(), again.as_mut_slice())?;
+    let mut bytes = vec![in heap; 0; samples.len()]?;
+    back(&table, &mut bytes)?;
     Ok(Found {
         lit: places(heap, lit, samples.len())?,
         reached: places(heap, reached, samples.len())?,
-        same: again.as_slice() == samples,
+        bytes,
     })
-}
-
-// Why a check could not be made.
-#[derive(Drop, Debug)]
-pub enum Fault {
-    Memory,
-    Refused(Refusal),
-}
-
-impl From<AllocError> for Fault {
-    fn from(_e: AllocError) -> Fault {
-        Fault::Memory
-    }
-}
-
-impl From<std::alloc::AllocFailed<usize>> for Fault {
-    fn from(_e: std::alloc::AllocFailed<usize>) -> Fault {
-        Fault::Memory
-    }
-}
-
-impl From<Refusal> for Fault {
-    fn from(e: Refusal) -> Fault {
-        Fault::Refused(e)
-    }
 }
 
 #[cfg(test)]
@@ -90,7 +54,6 @@ mod tests {
     use doubled::Doubled;
     use runlist::RunList;
     use std::process::Abort;
-    use std::test::Fail;
     use stream::transpose_and_back;
     use word::Word;
 
@@ -121,14 +84,11 @@ mod tests {
     // Each kind is held to the plain places, so all of them find the same.
     fn finds_lit<B: Block>(rt: &impl Abort, heap: Global, kind: &str) -> Result<(), Fail> {
         let found = exercise::<B>(heap, SAMPLES, true)?;
-        assert!(rt; found.same, "{kind}");
-        let mut lit = Vec::new(heap);
-        for (i, byte) in SAMPLES.iter().enumerate() {
-            if *byte == b'#' {
-                lit.push(i)?;
-            }
-        }
-        assert_eq!(rt; found.lit.as_slice(), lit.as_slice(), "{kind}");
+        assert_eq!(rt; found.bytes.as_slice(), SAMPLES, "{kind}");
+        let lit: Vec<usize> = (0..SAMPLES.len())
+            .filter(|i| SAMPLES[*i] == b'#')
+            .collect(heap)?;
+        assert_eq!(rt; found.lit, lit, "{kind}");
         assert_eq!(rt;
             found.reached.as_slice(),
             [
@@ -157,9 +117,9 @@ mod tests {
         let mut bytes = Vec::new(heap);
         for n in 0..65u8 {
             let mut table = blocks::<Word>(heap)?;
-            let mut again = vec![in heap; 0u8; bytes.len()]?;
-            transpose_and_back(bytes.as_slice(), table.as_mut_slice(), again.as_mut_slice())?;
-            assert_eq!(rt; again.as_slice(), bytes.as_slice());
+            let mut again = vec![in heap; 0; bytes.len()]?;
+            transpose_and_back(&bytes, &mut table, &mut again)?;
+            assert_eq!(rt; again, bytes);
             bytes.push(n.wrapping_mul(37).wrapping_add(200))?;
         }
         Ok(())
@@ -220,14 +180,10 @@ mod tests {
         let mut reader = Flashes::new();
         let (early, late) = RECORDING.split_at(cut.min(RECORDING.len()));
         for piece in [early, late] {
-            let n = reader.feed(piece, table.as_mut_slice(), ends.as_mut_slice())?;
-            for end in ends.iter().take(n) {
-                all.push(*end)?;
-            }
+            let n = reader.feed(piece, &mut table, &mut ends)?;
+            all.extend(ends.iter().copied().take(n))?;
         }
-        if let Some(end) = reader.close() {
-            all.push(end)?;
-        }
+        all.extend(reader.close())?;
         Ok(all)
     }
 
@@ -235,15 +191,12 @@ mod tests {
         let expected = plain(heap, RECORDING)?;
         for cut in 0..RECORDING.len() {
             let found = cut_at::<B>(heap, cut)?;
-            assert_eq!(rt; found.as_slice(), expected.as_slice(), "{kind}");
+            assert_eq!(rt; found, expected, "{kind}");
         }
         let mut table = blocks::<B>(heap)?;
         let mut ends = vec![in heap; NOWHERE; RECORDING.len() + 1]?;
-        let n = list_flashes(RECORDING, table.as_mut_slice(), ends.as_mut_slice())?;
-        assert_eq!(rt; n, expected.len(), "{kind}");
-        for (end, plain) in ends.iter().zip(expected.iter()) {
-            assert_eq!(rt; *end, *plain, "{kind}");
-        }
+        let n = list_flashes(RECORDING, &mut table, &mut ends)?;
+        assert_eq!(rt; ends.get(..n), Some(expected.as_slice()), "{kind}");
         Ok(())
     }
 

@@ -1,6 +1,7 @@
 -- Tables that grow by the sets of classes. Assumes nothing.
 use Rattle.std.proofs.Common.{◌≡◌, ℕ, zero, suc, ◌+◌, ◌-◌, ◌*◌, ◌≤◌, Bool, true, false, cond, eqb, leb, List, [], ◌∷◌, ◌++◌, map, length, take, drop, sym, refl, ap, ◌∙◌, subst, append_assoc, append-nil, suc-mul, arith, length-append}
 use Rattle.std.proofs.lemmas.Bool.{eqb-false}
+use Rattle.std.proofs.lemmas.List.{take-map, drop-map, length-map}
 use Rattle.form.specs.Form.{Form, Forms, Item, quote, set, out, seq, or, star, rep, start, end, nil, cons, weight, weights}
 use Rattle.form.specs.Meaning.{inside, outside}
 use Rattle.form.specs.Positions.{only}
@@ -11,10 +12,10 @@ use Rattle.tree.specs.declared.node.Range.{Range}
 use Rattle.tree.specs.declared.store.Tree.{Tree}
 use Rattle.tree.specs.Stands.{item, bytes_of, ranges_of, Pieces, StandAll, Stands}
 use Rattle.stream.specs.declared.set.ByteSet.{ByteSet}
-use Rattle.classes.specs.Limit.{heaviest}
+use Rattle.limits.specs.Limits.{heaviest}
 use Rattle.classes.specs.Numbered.{sets_of, Is, Are, Adds, Filled}
 use Rattle.classes.specs.declared.table.ClassTable.{ClassTable}
-use Rattle.classes.proofs.Shapes.{Shape, a_quote, a_set, an_out, a_seq, an_or, a_star, a_rep, a_start, an_end, Row, no_form, a_form}
+use Rattle.tree.proofs.Shapes.{Shape, a_quote, a_set, an_out, a_seq, an_or, a_star, a_rep, a_start, an_end, Row, no_form, a_form}
 
 pub are_long : (sets : List ByteSet) (cs : List (ℕ → Bool)) → Are sets cs → length sets ≡ length cs
 are_long [] [] h = refl
@@ -28,7 +29,7 @@ are_join [] b (c ∷ cs) ds h k = absurd h
 are_join (s ∷ a) b [] ds h k = absurd h
 are_join (s ∷ a) b (c ∷ cs) ds h k = (h.0, are_join a b cs ds h.1 k)
 
-pub none_adds : (t u : ClassTable) → sets_of u ≡ sets_of t → Adds t u []
+none_adds : (t u : ClassTable) → sets_of u ≡ sets_of t → Adds t u []
 none_adds t u e r = record { more = []; holds = e ∙ sym (append-nil (sets_of t)); sets = tt }
 
 pub put_adds : (t u : ClassTable) (s : ByteSet) (f : ℕ → Bool) → (length (sets_of t) + 1 ≤ heaviest → sets_of u ≡ sets_of t ++ s ∷ []) → Is s f → Adds t u (f ∷ [])
@@ -46,24 +47,10 @@ join_adds t u v cs ds a b room =
       sets = are_join x.more y.more cs ds x.sets y.sets;
     }
 
--- a piece of what is mapped is mapped from the same piece
-take-map : {X Y : Type 0} (f : X → Y) (n : ℕ) (xs : List X) → take n (map f xs) ≡ map f (take n xs)
-take-map f zero xs = refl
-take-map f (suc n) [] = refl
-take-map f (suc n) (x ∷ xs) = ap (λ l. f x ∷ l) (take-map f n xs)
-
-drop-map : {X Y : Type 0} (f : X → Y) (n : ℕ) (xs : List X) → drop n (map f xs) ≡ map f (drop n xs)
-drop-map f zero xs = refl
-drop-map f (suc n) [] = refl
-drop-map f (suc n) (x ∷ xs) = drop-map f n xs
-
-length_mapped : {X Y : Type 0} (f : X → Y) (xs : List X) → length (map f xs) ≡ length xs
-length_mapped f [] = refl
-length_mapped f (x ∷ xs) = ap suc (length_mapped f xs)
-
+-- the items of a piece of the ranges are a piece of the items
 items_of : (t : Tree) (a e : ℕ) (is : List Item) (rs : List Range) → Pieces t a e is → (e ≤ length (ranges_of t) → rs ≡ take (e - a) (drop a (ranges_of t))) → map item rs ≡ is
 items_of t a e is rs p h =
-    let l = length_mapped item (ranges_of t) in
+    let l = length-map (ranges_of t) item in
     ap (map item) (h (omega (arith, p.1)))
     ∙ sym (p.2 ∙ ap (take (e - a)) (drop-map item a (ranges_of t)) ∙ take-map item (e - a) (drop a (ranges_of t)))
 
@@ -109,10 +96,6 @@ module _ (x y : ClassTable) where
   nil_adds no_form h e = none_adds x y e
   nil_adds (a_form {i = i} {j = j} a b) h e = absurd (h i j refl)
 
-  pub nothing_adds : {t : Tree} {fs : Forms} {n : Node} (s : ByteSet) → Row t fs n → ((i j : ℕ) → n ≡ node.Cons i j → ⊥) → Is s nothing → (length (sets_of x) + 1 ≤ heaviest → sets_of y ≡ sets_of x ++ s ∷ []) → Adds x y (or_nothing fs (all_classes fs))
-  nothing_adds s no_form h is w = put_adds x y s nothing w is
-  nothing_adds s (a_form {i = i} {j = j} a b) h is w = absurd (h i j refl)
-
 -- ---- as many classes as a form weighs, at most
 
 some_times : (n w : ℕ) → (n ≡ 0 → ⊥) → w ≤ n * w
@@ -121,7 +104,7 @@ some_times (suc n) w h = omega (arith, suc-mul n w)
 
 mutual
   pub few : (F : Form) → length (classes F) ≤ weight F
-  few (quote bytes) = omega (arith, length_mapped only bytes)
+  few (quote bytes) = omega (arith, length-map bytes only)
   few (set items) = omega arith
   few (out items) = omega arith
   few (seq parts) = omega (arith, few_all parts)

@@ -1,7 +1,6 @@
 -- The values of sets, from the bits of their halves. Assumes nothing.
-use Rattle.std.proofs.Common.{◌≡◌, ℕ, ◌+◌, ◌-◌, ◌*◌, ◌%◌, ◌^◌, ◌<◌, ◌≤◌, Bool, true, false, cond, not, ◌&&◌, eqb, ltb, leb, sym, refl, ap, ◌∙◌, ⊎_elim, one-mul, arith, pow_pos, shl_exact, ltb-false, ltb-true}
+use Rattle.std.proofs.Common.{◌≡◌, ℕ, ◌+◌, ◌-◌, ◌*◌, ◌%◌, ◌^◌, ◌<◌, ◌≤◌, Bool, true, false, cond, not, ltb, sym, refl, ap, ◌∙◌, ⊎_elim, one-mul, arith, pow_pos, shl_exact, ltb-false, ltb-true}
 use Rattle.std.proofs.lemmas.Bool.{lt-ltb, le-ltb, cases_lt}
-use Rattle.std.proofs.lemmas.Bool.Decides.{nat_tests}
 use Rattle.block.specs.Rows.{bit, is_one, bit_of, row_of}
 use Rattle.block.proofs.Places.{place_ones, place_past}
 use Rattle.block.proofs.Rows.{bit_tab}
@@ -42,9 +41,3 @@ pub shifted_ones : (n v : ℕ) → n < 128 → bit_of ((1 * 2 ^ n) % 2 ^ 128 - 1
 shifted_ones n v h =
     let e : (1 * 2 ^ n) % 2 ^ 128 ≡ 2 ^ n = shl_exact 1 n 128 (omega arith) (omega arith) ∙ one-mul (2 ^ n) in
     ap (λ m. bit_of (m - 1) v) e ∙ bit_ones n v
-
-pub between : (v low high : ℕ) → (ltb v (high + 1) && not (ltb v low)) ≡ (leb low v && leb v high)
-between v low high = grind (arith, nat_tests)
-
-pub alone : (v byte : ℕ) → (leb byte v && leb v byte) ≡ eqb v byte
-alone v byte = grind (arith, nat_tests)

@@ -2,7 +2,7 @@
 use Rattle.std.specs.Prelude.{◌≡◌, ℕ, ◌+◌, ◌<◌, ◌≤◌, Bool, List, [], ◌∷◌, ◌++◌, length, vec_items}
 use Rattle.stream.specs.Sets.{has}
 use Rattle.stream.specs.declared.set.ByteSet.{ByteSet}
-use Rattle.classes.specs.Limit.{heaviest}
+use Rattle.limits.specs.Limits.{heaviest}
 use Rattle.classes.specs.declared.table.ClassTable.{ClassTable}
 
 abbrev pub sets_of : ClassTable → List ByteSet

@@ -6,11 +6,9 @@ ghost use Rattle.stream.specs.Sets.{has};
 ghost use Rattle.tree.specs.Stands.{item};
 
 use crate::sets::{complement, range, union, without};
+use limits::LINE_FEED;
 use stream::ByteSet;
 use tree::node::Range;
-
-// The byte that closes a line and is part of none.
-const FEED: u8 = 0x0A;
 
 // The values that are in a range.
 fn listed(ranges: &[Range]) -> ByteSet
@@ -27,19 +25,19 @@ fn listed(ranges: &[Range]) -> ByteSet
 pub fn inside(ranges: &[Range]) -> ByteSet
     ensures { (v : ℕ) → v < 256 → has result v ≡ inside_of (map item ranges.now) v }
 {
-    without(listed(ranges), FEED)
+    without(listed(ranges), LINE_FEED)
 }
 
 // The bytes that an out takes.
 pub fn outside(ranges: &[Range]) -> ByteSet
     ensures { (v : ℕ) → v < 256 → has result v ≡ outside_of (map item ranges.now) v }
 {
-    without(complement(listed(ranges)), FEED)
+    without(complement(listed(ranges)), LINE_FEED)
 }
 
 // The byte that a byte of a quote takes.
 pub fn quoted(byte: u8) -> ByteSet
     ensures { (v : ℕ) → v < 256 → has result v ≡ only byte v }
 {
-    without(range(byte, byte), FEED)
+    without(range(byte, byte), LINE_FEED)
 }

@@ -1,4 +1,5 @@
 // Sets of byte values, by arithmetic on their halves.
+// Functions and no methods of `ByteSet`: it is a type of `stream`, which needs none of them.
 ghost use Rattle.std.specs.Prelude.{◌≡◌, ℕ, ◌<◌, ◌≤◌, not, ◌&&◌, ◌||◌, ◌==◌, nat_le, nat_lt};
 ghost use Rattle.block.specs.Rows.{bit_of};
 ghost use Rattle.stream.specs.Sets.{has};

@@ -1,6 +1,6 @@
 // A table of classes.
 ghost use Rattle.std.specs.Prelude.{◌≤◌, vec_capacity};
-ghost use Rattle.classes.specs.Limit.{heaviest};
+ghost use Rattle.limits.specs.Limits.{heaviest};
 
 use stream::ByteSet;
 

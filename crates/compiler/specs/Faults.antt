@@ -7,7 +7,7 @@ use Rattle.reader.specs.declared.fault.FormFault.TheVariants as form
 use Rattle.refusal.specs.declared.Refusal.{Refusal}
 use Rattle.refusal.specs.declared.Refusal.TheVariants as refused
 use Rattle.refusal.specs.declared.Refusal.TheVariants.{TextTooLong, NoToken, UnexpectedToken, BadNumber, TooDeep}
-use Rattle.compiler.specs.Limit.{heaviest}
+use Rattle.limits.specs.Limits.{heaviest}
 use Rattle.compiler.specs.declared.fault.ProgramFault.{ProgramFault}
 use Rattle.compiler.specs.declared.fault.ProgramFault.TheVariants.{Unread, TooHeavy}
 

@@ -1,8 +1,6 @@
--- The heaviest form that is taken. Assumes nothing.
+-- Weights that are cut off. Assumes nothing.
 use Rattle.std.specs.Prelude.{ℕ, ◌+◌, min}
-
-abbrev pub heaviest : ℕ
-heaviest = 1000
+use Rattle.limits.specs.Limits.{heaviest}
 
 -- a weight, cut off one past the limit
 abbrev pub capped : ℕ → ℕ

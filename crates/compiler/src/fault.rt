@@ -13,6 +13,7 @@ pub enum ProgramFault {
     TooHeavy,
 }
 
+// Written and not derived: only a written impl can have `from_gives`, by which a `?` tells which fault it has made.
 impl From<FormFault> for ProgramFault {
     ghost from_gives = { λ e r. r ≡ Unread e };
 

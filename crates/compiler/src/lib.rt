@@ -4,13 +4,14 @@
 
 ghost use Rattle.std.specs.Prelude.{◌≡◌, ◌≤◌, MatchResult};
 ghost use Rattle.compiler.specs.Faults.{Refused, Why};
-ghost use Rattle.compiler.specs.Limit.{heaviest};
 ghost use Rattle.form.specs.Form.{Form, weight as weight_of};
 ghost use Rattle.grammar.specs.Verdicts.{OneVerdict, Settles, accepted};
+ghost use Rattle.limits.specs.Limits.{heaviest};
 ghost use Rattle.tree.specs.Stands.{Stands};
 
 use crate::fault::ProgramFault;
-use crate::weigh::{HEAVIEST, weight};
+use crate::weigh::weight;
+use limits::HEAVIEST;
 use refusal::Refusal;
 use tree::store::Tree;
 

@@ -1,33 +1,30 @@
 // Weighs a form, and never past one more than the limit, so that no product wraps.
 ghost use Rattle.std.specs.Prelude.{◌≡◌, ◌+◌, ◌≤◌};
-ghost use Rattle.compiler.specs.Limit.{capped as capped_of, heaviest};
+ghost use Rattle.compiler.specs.Limit.{capped as capped_of};
 ghost use Rattle.form.specs.Form.{Form, Forms, weight as weight_of, weights as weights_of};
+ghost use Rattle.limits.specs.Limits.{heaviest};
 ghost use Rattle.tree.specs.Stands.{StandAll, Stands};
 
+use limits::HEAVIEST;
 use tree::node::Node;
 use tree::store::Tree;
-
-// The heaviest form that is taken.
-pub(crate) const HEAVIEST: u32 = 1000;
 
 // One past the limit stands for every weight above it.
 fn capped(w: u32) -> u32
     ensures { result ≡ capped_of w }
 {
-    if w > HEAVIEST { HEAVIEST + 1 } else { w }
+    w.min(HEAVIEST + 1)
 }
 
 // What a quote of that many bytes weighs.
 fn quoted(bytes: usize) -> u32
     ensures { result ≡ capped_of (1 + bytes) }
 {
-    if bytes >= HEAVIEST as usize {
-        return HEAVIEST + 1;
-    }
-    1 + bytes as u32
+    1 + bytes.min(HEAVIEST as usize) as u32
 }
 
-// The weight of the form that the node stands for.
+// The weight of the form that the node stands for. The node is taken out of its Option before the match on its kinds:
+// of a pattern such as `Some(Node::Set { .. } | Node::Out { .. })` a proof learns only that there is a node.
 #[cycle(weight_weights)]
 pub(crate) fn weight(tree: &Tree, i: usize) -> u32
     ensures small { result ≤ heaviest + 1 }
@@ -38,21 +35,12 @@ pub(crate) fn weight(tree: &Tree, i: usize) -> u32
     };
     match node {
         Node::Quote { from, to } => quoted(to.saturating_sub(from)),
-        Node::Set { from: _, to: _ } => 1,
-        Node::Out { from: _, to: _ } => 1,
-        Node::Seq { parts } => capped(1 + weights(tree, parts)),
-        Node::Or { parts } => capped(1 + weights(tree, parts)),
+        Node::Set { .. } | Node::Out { .. } | Node::Start | Node::End => 1,
+        Node::Seq { parts } | Node::Or { parts } => capped(1 + weights(tree, parts)),
         Node::Star { part } => capped(1 + weight(tree, part)),
-        Node::Rep {
-            least: _,
-            most,
-            part,
-        } => capped(1 + u32::from(most) * weight(tree, part)),
-        Node::Start => 1,
-        Node::End => 1,
+        Node::Rep { most, part, .. } => capped(1 + u32::from(most) * weight(tree, part)),
         // a list is no form
-        Node::Nil => 0,
-        Node::Cons { head: _, tail: _ } => 0,
+        Node::Nil | Node::Cons { .. } => 0,
     }
 }
 

@@ -1,13 +1,12 @@
 -- Bits by bytes. Assumes nothing.
-use Rattle.std.proofs.Common.{◌≡◌, ℕ, ◌+◌, ◌-◌, ◌*◌, ◌/◌, ◌%◌, ◌^◌, ◌<◌, Bool, true, false, not, List, length, get_or, sym, ap, ◌∙◌, subst, ap₂, arith}
-use mathlib.Core.Bool.{beq}
+use Rattle.std.proofs.Common.{◌≡◌, ℕ, ◌+◌, ◌-◌, ◌*◌, ◌/◌, ◌%◌, ◌^◌, ◌<◌, Bool, true, false, not, List, length, get_or, sym, ap, ◌∙◌, subst, ap₂, arith, eqb, eqb-true, eq-eqb}
 use native.Mathlib.Decide.{dec_lt}
 use Rattle.block.specs.Rows.{bit, bit_of, is_one, row_of}
-use Rattle.block.specs.Calls.{Served, Read}
+use Rattle.block.specs.Calls.{answered, Served, Read}
 use Rattle.block.proofs.Rows.{bit_at, wrong}
 use Rattle.block.proofs.Places.{place_ones}
 use Rattle.block.proofs.Numbers.{bit_row, row_not, same_number}
-use Rattle.conform.specs.Judged.{Agree, repeated}
+use Rattle.conform.specs.Judged.{Agree, Differ, HasByte, repeated}
 
 pub bit_ones : (j : ℕ) → j < 8 → bit_of 255 j ≡ true
 bit_ones j h = ap is_one (place_ones 8 j h)
@@ -24,13 +23,18 @@ agree_more k f g before here i h =
       | no l ↦ let back : 8 * k + (i - 8 * k) ≡ i = omega arith in subst (λ n. f n ≡ g n) back (here (i - 8 * k) (omega arith))
     ]
 
--- the group k of a row x is the byte of b, where b's bits are those of g
-module _ (w : ℕ) (x : List Bool) (k b r : ℕ) (g : ℕ → Bool) (served : Served w k) (reads : Read w x k r) (bits : (j : ℕ) → j < 8 → bit_of b j ≡ g (8 * k + j)) where
-  pub group_same : r ≡ b → (j : ℕ) → j < 8 → bit x (8 * k + j) ≡ g (8 * k + j)
-  group_same e j h = sym (reads.inside served j h) ∙ ap (λ n. bit_of n j) e ∙ bits j h
+-- the group k of a row x is compared with the byte b, whose bits are those of g
+module _ (w : ℕ) (x : List Bool) (k b r : ℕ) (g : ℕ → Bool) (served : Served w k) (reads : Read w x k r) (bits : HasByte g k b) where
+  pub group_same : true ≡ eqb r b → (j : ℕ) → j < 8 → bit x (8 * k + j) ≡ g (8 * k + j)
+  group_same e j h = sym (reads.inside served j h) ∙ ap (λ n. bit_of n j) (eqb-true r b (sym e)) ∙ bits j h
 
-  pub group_found : r < 2 ^ 8 → b < 2 ^ 8 → Agree (8 * k + 8) (bit x) g → r ≡ b
-  group_found lr lb agree = same_number 8 r b lr lb (λ j h. reads.inside served j h ∙ agree (8 * k + j) (omega arith) ∙ sym (bits j h))
+  pub group_differs : false ≡ eqb r b → r < 2 ^ 8 → b < 2 ^ 8 → Agree (8 * k) (bit x) g → Differ (answered w) (bit x) g (8 * k)
+  group_differs e lr lb before = (
+    omega arith,
+    before,
+    λ agree. wrong
+        (e ∙ eq-eqb r b (same_number 8 r b lr lb (λ j h. reads.inside served j h ∙ agree (8 * k + j) (omega arith) ∙ sym (bits j h)))),
+  )
 
 -- the places of a group
 module _ (k j : ℕ) (h : j < 8) where
@@ -42,10 +46,3 @@ module _ (k j : ℕ) (h : j < 8) where
 
   pub repeated_here : (bytes : List ℕ) → bit_of (get_or bytes (k % length bytes) 0) j ≡ repeated bytes (8 * k + j)
   repeated_here bytes = sym (ap₂ (λ m n. bit_of (get_or bytes (m % length bytes) 0) n) group_of place_of)
-
--- what a test of two bits says
-pub differs : (a b : Bool) → not (beq a b) ≡ true → a ≡ b → ⊥
-differs true true e h = wrong e
-differs true false e h = wrong (sym h)
-differs false true e h = wrong h
-differs false false e h = wrong e

@@ -1,5 +1,5 @@
 -- What the judges find: whether an answer holds the bits that it should, as far as the calls show them. Assumes nothing.
-use Rattle.std.specs.Prelude.{◌≡◌, ℕ, ◌+◌, ◌/◌, ◌%◌, ◌<◌, ◌≤◌, Bool, true, false, cond, not, ◌&&◌, ◌||◌, ◌⊎◌, List, length, Ok, Err, Result, ◌==◌, slice_index}
+use Rattle.std.specs.Prelude.{◌≡◌, ℕ, ◌+◌, ◌*◌, ◌/◌, ◌%◌, ◌<◌, ◌≤◌, Bool, true, false, cond, not, ◌&&◌, ◌||◌, ◌⊎◌, List, length, Ok, Err, Result, ◌==◌, slice_index}
 use Rattle.block.specs.Rows.{bit, bit_of}
 use Rattle.block.specs.Calls.{widest, answered, differ}
 use Rattle.block.specs.Sums.{over, sum}
@@ -12,6 +12,10 @@ use Rattle.conform.specs.declared.Logic.TheVariants.{Nothing, Everything, And, O
 -- f and g hold the same bits below e
 abbrev pub Agree : ℕ → (ℕ → Bool) → (ℕ → Bool) → Type 0
 Agree e f g = (i : ℕ) → i < e → f i ≡ g i
+
+-- the byte's bits are those of f at the group k
+abbrev pub HasByte : (ℕ → Bool) → ℕ → ℕ → Type 0
+HasByte f k byte = (j : ℕ) → j < 8 → bit_of byte j ≡ f (8 * k + j)
 
 -- the first group at which f and g differ, below e, begins at p
 abbrev pub Differ : ℕ → (ℕ → Bool) → (ℕ → Bool) → ℕ → Type 0

@@ -6,17 +6,14 @@
 
 #![tactic(auto)]
 
-ghost use Rattle.std.specs.Prelude.{◌≡◌, ℕ, ◌+◌, ◌*◌, ◌/◌, ◌%◌, ◌<◌, true, length, is_ok, slice_index};
-ghost use Rattle.block.specs.Rows.{bit, tab, bit_of, worth};
+ghost use Rattle.std.specs.Prelude.{◌≡◌, ℕ, ◌+◌, ◌*◌, ◌/◌, ◌%◌, ◌<◌, Bool, true, length, is_ok, IfErr, slice_index};
+ghost use Rattle.block.specs.Rows.{bit, tab, bit_of};
 ghost use Rattle.block.specs.Calls.{answered, Served, First};
-ghost use Rattle.conform.specs.Judged.{Agree, Judged, SumJudged, call_of, made, written, repeated};
+ghost use Rattle.conform.specs.Judged.{Agree, HasByte, Judged, SumJudged, call_of, made, written, repeated};
 
-use block::Block;
+use block::{Block, WIDEST};
 
-// The widest answer of `width`.
-const WIDEST: usize = 65528;
-
-// The members of the interface.
+// The members of the interface. Each `check_` below promises that a lawful kind passes, and nothing else.
 #[derive(Clone, Copy, PartialEq, Eq, Debug)]
 pub enum Call {
     Width,
@@ -41,7 +38,8 @@ pub struct Deviation {
     pub place: usize,
 }
 
-// The calls that work place by place.
+// The calls that work place by place. They are values and not closures, since a deviation names its call, and what each
+// call owes is said by its name.
 #[derive(Clone, Copy)]
 pub enum Logic {
     Nothing,
@@ -52,6 +50,63 @@ pub enum Logic {
     Not,
 }
 
+impl From<Logic> for Call {
+    ghost from_gives = { λ op call. call ≡ call_of op };
+
+    fn from(op: Logic) -> Call {
+        match op {
+            Logic::Nothing => Call::None,
+            Logic::Everything => Call::All,
+            Logic::And => Call::And,
+            Logic::Or => Call::Or,
+            Logic::Xor => Call::Xor,
+            Logic::Not => Call::Not,
+        }
+    }
+}
+
+impl Logic {
+    // What the call owes, at eight places.
+    fn byte(self, x: u8, y: u8) -> u8
+        ensures { (j : ℕ) → j < 8 → bit_of result j ≡ made self (bit_of x j) (bit_of y j) }
+    {
+        match self {
+            Logic::Nothing => 0,
+            Logic::Everything => 0xff,
+            Logic::And => x & y,
+            Logic::Or => x | y,
+            Logic::Xor => x ^ y,
+            Logic::Not => !x,
+        }
+    }
+
+    // What the kind's own call answers.
+    fn answer<B: Block>(self, a: B, b: B) -> B
+        ensures { B.Block.row result ≡ tab B.Block.places (λ i. made self (bit (B.Block.row a) i) (bit (B.Block.row b) i)) }
+    {
+        match self {
+            Logic::Nothing => B::none(),
+            Logic::Everything => B::all(),
+            Logic::And => a.and(b),
+            Logic::Or => a.or(b),
+            Logic::Xor => a.xor(b),
+            Logic::Not => a.not(),
+        }
+    }
+}
+
+// A deviation where something does not hold.
+fn expect(holds: bool, call: Call, place: usize) -> Result<(), Deviation>
+    ensures passed { is_ok result ≡ holds }
+    ensures found { IfErr result (λ d. (d.call ≡ call) × (d.place ≡ place)) }
+{
+    if holds {
+        Ok(())
+    } else {
+        Err(Deviation { call, place })
+    }
+}
+
 // How many groups are served.
 fn groups<B: Block>() -> usize
     ensures { result ≡ answered B.Block.places / 8 }
@@ -59,57 +114,26 @@ fn groups<B: Block>() -> usize
     B::width() / 8
 }
 
-fn call_of(op: Logic) -> Call
-    ensures { result ≡ call_of op }
+// Whether `answer` holds the bytes that `want` gives, group by group.
+fn judge<B: Block, F: Fn(usize) -> u8>(call: Call, answer: B, want: F) -> Result<(), Deviation>
+    requires { F.IsAlwaysCallable want }
+    ensures { (row : ℕ → Bool) → ((k byte : ℕ) → Served B.Block.places k → F.post want k byte → HasByte row k byte) → Judged call (answered B.Block.places) (bit (B.Block.row answer)) row result }
 {
-    match op {
-        Logic::Nothing => Call::None,
-        Logic::Everything => Call::All,
-        Logic::And => Call::And,
-        Logic::Or => Call::Or,
-        Logic::Xor => Call::Xor,
-        Logic::Not => Call::Not,
+    for k in 0..groups::<B>() {
+        expect(answer.read(k) == want(k), call, 8 * k)?;
     }
-}
-
-fn byte_of(op: Logic, x: u8, y: u8) -> u8
-    ensures { (j : ℕ) → j < 8 → bit_of result j ≡ made op (bit_of x j) (bit_of y j) }
-{
-    match op {
-        Logic::Nothing => 0,
-        Logic::Everything => 0xff,
-        Logic::And => x & y,
-        Logic::Or => x | y,
-        Logic::Xor => x ^ y,
-        Logic::Not => 0xff - x,
-    }
+    Ok(())
 }
 
 // Whether `answer` is what `op` makes of `a` and `b`.
 pub fn judge_logic<B: Block>(op: Logic, a: B, b: B, answer: B) -> Result<(), Deviation>
     ensures { Judged (call_of op) (answered B.Block.places) (bit (B.Block.row answer)) (λ i. made op (bit (B.Block.row a) i) (bit (B.Block.row b) i)) result }
 {
-    for k in 0..groups::<B>() {
-        let want = byte_of(op, a.read(k), b.read(k));
-        if answer.read(k) != want {
-            return Err(Deviation {
-                call: call_of(op),
-                place: 8 * k,
-            });
-        }
-    }
-    Ok(())
+    judge(Call::from(op), answer, |k| op.byte(a.read(k), b.read(k)))
 }
 
-// The sum of two bytes and a bit, with the bit that falls out.
-fn add_bytes(x: u8, y: u8, enter: bool) -> (u8, bool)
-    ensures { result.0 + worth result.1 * 256 ≡ x + y + worth enter }
-{
-    let sum = u16::from(x) + u16::from(y) + u16::from(enter);
-    ((sum % 256) as u8, sum >= 256)
-}
-
-// Whether `answer` is the sum of `a`, `b` and a bit. An advance is the sum of a block with itself.
+// Whether `answer` is the sum of `a`, `b` and a bit. An advance is the sum of a block with itself. What a group should
+// hold depends on the carry of the groups before it, so this is a loop of its own and not a `judge`.
 pub fn judge_sum<B: Block>(
     call: Call,
     a: B,
@@ -122,20 +146,12 @@ pub fn judge_sum<B: Block>(
     let (total, out) = answer;
     let mut carry = enter;
     for k in 0..groups::<B>() {
-        let (want, next) = add_bytes(a.read(k), b.read(k), carry);
-        if total.read(k) != want {
-            return Err(Deviation { call, place: 8 * k });
-        }
+        let (want, next) = a.read(k).carrying_add(b.read(k), carry);
+        expect(total.read(k) == want, call, 8 * k)?;
         carry = next;
     }
     let width = B::width();
-    if width == WIDEST {
-        return Ok(());
-    }
-    if out != carry {
-        return Err(Deviation { call, place: width });
-    }
-    Ok(())
+    expect(width == WIDEST || out == carry, call, width)
 }
 
 // The group `g` of `before` with a byte at the group `k`.
@@ -149,16 +165,7 @@ fn put_group<B: Block>(before: B, k: usize, byte: u8, g: usize) -> u8
 pub fn judge_put<B: Block>(before: B, k: usize, byte: u8, after: B) -> Result<(), Deviation>
     ensures { Judged Call.Put (answered B.Block.places) (bit (B.Block.row after)) (written k byte (bit (B.Block.row before))) result }
 {
-    for g in 0..groups::<B>() {
-        let want = put_group(before, k, byte, g);
-        if after.read(g) != want {
-            return Err(Deviation {
-                call: Call::Put,
-                place: 8 * g,
-            });
-        }
-    }
-    Ok(())
+    judge(Call::Put, after, |g| put_group(before, k, byte, g))
 }
 
 // The byte at `k` of bytes that come over and over.
@@ -175,36 +182,13 @@ fn byte_at(bytes: &[u8], k: usize) -> u8
 pub fn judge_row<B: Block>(bytes: &[u8], block: B) -> Result<(), Deviation>
     ensures { Judged Call.Put (answered B.Block.places) (bit (B.Block.row block)) (repeated bytes.now) result }
 {
-    for k in 0..groups::<B>() {
-        let want = byte_at(bytes, k);
-        if block.read(k) != want {
-            return Err(Deviation {
-                call: Call::Put,
-                place: 8 * k,
-            });
-        }
-    }
-    Ok(())
-}
-
-// What the kind's own call answers.
-fn answer_of<B: Block>(op: Logic, a: B, b: B) -> B
-    ensures { B.Block.row result ≡ tab B.Block.places (λ i. made op (bit (B.Block.row a) i) (bit (B.Block.row b) i)) }
-{
-    match op {
-        Logic::Nothing => B::none(),
-        Logic::Everything => B::all(),
-        Logic::And => a.and(b),
-        Logic::Or => a.or(b),
-        Logic::Xor => a.xor(b),
-        Logic::Not => a.not(),
-    }
+    judge(Call::Put, block, |k| byte_at(bytes, k))
 }
 
 fn check_logic<B: Block>(op: Logic, a: B, b: B) -> Result<(), Deviation>
     ensures { is_ok result ≡ true }
 {
-    judge_logic(op, a, b, answer_of(op, a, b))
+    judge_logic(op, a, b, op.answer(a, b))
 }
 
 fn check_advance<B: Block>(a: B, enter: bool) -> Result<(), Deviation>
@@ -224,13 +208,11 @@ fn check_group<B: Block>(block: B, k: usize, byte: u8) -> Result<(), Deviation>
     ensures { is_ok result ≡ true }
 {
     judge_put(block, k, byte, block.put(k, byte))?;
-    if k >= groups::<B>() && block.read(k) != 0 {
-        return Err(Deviation {
-            call: Call::Read,
-            place: B::width(),
-        });
-    }
-    Ok(())
+    expect(
+        k < groups::<B>() || block.read(k) == 0,
+        Call::Read,
+        B::width(),
+    )
 }
 
 // A block with the bytes over and over, written over another.
@@ -267,18 +249,7 @@ fn first_from<B: Block>(block: B, i: usize, later: Option<usize>) -> Option<usiz
 fn check_first<B: Block>(block: B, i: usize, want: Option<usize>) -> Result<(), Deviation>
     ensures { First B.Block.places (B.Block.row block) i want → is_ok result ≡ true }
 {
-    let same = match (block.first(i), want) {
-        (Some(p), Some(q)) => p == q,
-        (None, None) => true,
-        _ => false,
-    };
-    if same {
-        return Ok(());
-    }
-    Err(Deviation {
-        call: Call::First,
-        place: i,
-    })
+    expect(block.first(i) == want, Call::First, i)
 }
 
 // From every place, the last first, and from beyond.
@@ -303,40 +274,22 @@ fn check_out<B: Block>(enter: bool) -> Result<(), Deviation>
 {
     let place = B::width();
     let (_, one) = B::all().advance(enter);
-    if !one {
-        return Err(Deviation {
-            call: Call::Advance,
-            place,
-        });
-    }
+    expect(one, Call::Advance, place)?;
     let (_, zero) = B::none().advance(enter);
-    if zero {
-        return Err(Deviation {
-            call: Call::Advance,
-            place,
-        });
-    }
+    expect(!zero, Call::Advance, place)?;
     let (_, carry) = B::all().add(B::none(), enter);
-    if carry != enter {
-        return Err(Deviation {
-            call: Call::Add,
-            place,
-        });
-    }
-    Ok(())
+    expect(carry == enter, Call::Add, place)
 }
 
 fn check_width<B: Block>() -> Result<(), Deviation>
     ensures { is_ok result ≡ true }
 {
     let width = B::width();
-    if width % 8 != 0 || width < 8 || width > WIDEST {
-        return Err(Deviation {
-            call: Call::Width,
-            place: width,
-        });
-    }
-    Ok(())
+    expect(
+        width % 8 == 0 && (8..=WIDEST).contains(&width),
+        Call::Width,
+        width,
+    )
 }
 
 fn check_pair<B: Block>(a: B, b: B) -> Result<(), Deviation>
@@ -399,35 +352,32 @@ fn check_groups<B: Block>(block: B) -> Result<(), Deviation>
     check_group(block, usize::MAX, 0xff)
 }
 
-// How many rows there are.
-const ROWS: usize = 9;
+// Noise of an odd length.
+const NOISE: &[u8] =
+    b"\x9e\x37\x79\xb9\x7f\x4a\x7c\x15\xf3\x9c\xc0\x60\x5c\xed\xc8\x34\x10\x82\x27\x6b\xa2\x72\x51\xf8\x6c";
 
 // The rows by their bytes, which come over and over: none, all, every other place, runs over the borders of bytes, and
-// noise of an odd length.
-fn bytes_of(n: usize) -> &'static [u8] {
-    match n {
-        0 => b"\x00",
-        1 => b"\xff",
-        2 => b"\x55",
-        3 => b"\xaa",
-        4 => b"\xf0\x0f",
-        5 => b"\xc0\xff\x03\x00\x00",
-        6 => b"\x80\x01\x7f\xfe",
-        7 => b"\xff\x00\x00\x00\x00\x00\x00\xff\xff",
-        _ =>
-            b"\x9e\x37\x79\xb9\x7f\x4a\x7c\x15\xf3\x9c\xc0\x60\x5c\xed\xc8\x34\x10\x82\x27\x6b\xa2\x72\x51\xf8\x6c",
-    }
-}
+// noise.
+const ROWS: [&[u8]; 9] = [
+    b"\x00",
+    b"\xff",
+    b"\x55",
+    b"\xaa",
+    b"\xf0\x0f",
+    b"\xc0\xff\x03\x00\x00",
+    b"\x80\x01\x7f\xfe",
+    b"\xff\x00\x00\x00\x00\x00\x00\xff\xff",
+    NOISE,
+];
 
-// A row beside the one before it, each written over another.
-fn check_row<B: Block>(n: usize) -> Result<(), Deviation>
+// A row beside another, each written over another.
+fn check_row<B: Block>(before: &[u8], bytes: &[u8]) -> Result<(), Deviation>
     ensures { is_ok result ≡ true }
 {
-    let before = if n == 0 { ROWS } else { n - 1 };
-    check_fill(B::all(), bytes_of(before))?;
-    let b = fill(B::all(), bytes_of(before));
-    check_fill(b, bytes_of(n))?;
-    let a = fill(b, bytes_of(n));
+    check_fill(B::all(), before)?;
+    let b = fill(B::all(), before);
+    check_fill(b, bytes)?;
+    let a = fill(b, bytes);
     check_pair(a, b)?;
     check_pair(b, a)?;
     check_firsts(a)
@@ -443,9 +393,11 @@ pub fn check_kind<B: Block>() -> Result<(), Deviation>
     check_out::<B>(false)?;
     check_out::<B>(true)?;
     check_pair(B::all(), B::none())?;
-    for n in 0..ROWS {
-        check_row::<B>(n)?;
+    let mut before = NOISE;
+    for bytes in ROWS {
+        check_row::<B>(before, bytes)?;
+        before = bytes;
     }
-    check_groups(fill(B::none(), bytes_of(ROWS)))?;
+    check_groups(fill(B::none(), NOISE))?;
     check_singles::<B>()
 }

@@ -1,8 +1,8 @@
 -- Two rows of v bits behind one another, as a row of v + v. Assumes nothing.
 use Rattle.std.specs.Prelude.{◌≡◌, ℕ, ◌+◌, ◌*◌, ◌<◌, ◌≤◌, Bool, List, ◌++◌, length, Some, None, Option}
 use Rattle.block.specs.Calls.{answered, none_row, all_row, and_row, or_row, xor_row, not_row, Served, Past}
-use Rattle.doubled.specs.declared.Group.{Group}
-use Rattle.doubled.specs.declared.Group.TheVariants.{Early, Late, Beyond}
+use Rattle.doubled.specs.declared.Half.{Half}
+use Rattle.doubled.specs.declared.Half.TheVariants.{Early, Late}
 
 -- the whole is x and y behind one another: what was done place by place to each half was done to the whole
 pub record Joined (v : ℕ) (x y whole : List Bool) : Type 0 where
@@ -20,10 +20,10 @@ pub record InLate (v k n : ℕ) : Type 0 where
   pub whole : Served (v + v) k
 
 -- where the group k of the whole lies
-abbrev pub Lies : ℕ → ℕ → Group → Type 0
-Lies v k Early = Served v k
-Lies v k (Late n) = InLate v k n
-Lies v k Beyond = Past (v + v) k
+abbrev pub Lies : ℕ → ℕ → Option Half → Type 0
+Lies v k (Some (Early n)) = (n ≡ k) × Served v k
+Lies v k (Some (Late n)) = InLate v k n
+Lies v k None = Past (v + v) k
 
 -- the place p of the later half, as a place of the whole, below the answered width
 abbrev pub Place : ℕ → ℕ → Option ℕ → Type 0

@@ -5,29 +5,24 @@
 
 #![tactic(auto)]
 
-ghost use Rattle.std.specs.Prelude.{◌+◌, ◌++◌};
-ghost use Rattle.block.specs.Calls.{Advance, Add};
+ghost use Rattle.std.specs.Prelude.{◌≡◌, ◌+◌, Bool, List, ◌++◌, length};
+ghost use Rattle.block.specs.Calls.{First};
 ghost use Rattle.doubled.specs.Halves.{Joined, Lies, Place};
 ghost use Rattle.std.proofs.Common.{ap₂, ◌∙◌, rules};
 ghost use Rattle.block.proofs.Rows.{length_joined};
 
-use block::Block;
+use block::{Block, WIDEST};
 
-// The widest answer of `width`.
-const WIDEST: usize = 65528;
-
-#[derive(Clone, Copy)]
+#[derive(Clone, Copy, PartialEq, Eq, Debug)]
 pub struct Doubled<B> {
     pub early: B,
     pub late: B,
 }
 
-// Where a group of the whole lies: in the earlier half, in the later, under its number there, or beyond the answered
-// width.
-enum Group {
-    Early,
+// The half that a group of the whole lies in, with the group's number there.
+enum Half {
+    Early(usize),
     Late(usize),
-    Beyond,
 }
 
 // Two blocks behind one another.
@@ -37,38 +32,16 @@ fn join<B: Block>(early: B, late: B) -> Doubled<B>
     Doubled { early, late }
 }
 
-// Each half one place on, with the bit that falls out of it; the earlier's enters the later.
-fn advance_halves<B: Block>(block: Doubled<B>, enter: bool) -> ((B, bool), (B, bool))
-    ensures early { Advance B.Block.places (B.Block.row block.early) enter (B.Block.row result.0.0) result.0.1 }
-    ensures late { Advance B.Block.places (B.Block.row block.late) result.0.1 (B.Block.row result.1.0) result.1.1 }
-{
-    let early = block.early.advance(enter);
-    let late = block.late.advance(early.1);
-    (early, late)
-}
-
-// The sum of each half, with the bit that falls out of it; the earlier's enters the later.
-fn add_halves<B: Block>(one: Doubled<B>, other: Doubled<B>, enter: bool) -> ((B, bool), (B, bool))
-    ensures early { Add B.Block.places (B.Block.row one.early) (B.Block.row other.early) enter (B.Block.row result.0.0) result.0.1 }
-    ensures late { Add B.Block.places (B.Block.row one.late) (B.Block.row other.late) result.0.1 (B.Block.row result.1.0) result.1.1 }
-{
-    let early = one.early.add(other.early, enter);
-    let late = one.late.add(other.late, early.1);
-    (early, late)
-}
-
-// The second test is the whole's own: a group that the later half serves may lie beyond the whole's answered width.
-fn find<B: Block>(k: usize) -> Group
+// Where the group `k` of the whole lies, or none where that is beyond the answered width. The second test is the
+// whole's own: a group that the later half serves may lie beyond the whole's answered width.
+fn find<B: Block>(k: usize) -> Option<Half>
     ensures { Lies B.Block.places k result }
 {
     let half = B::width() / 8;
     if k < half {
-        return Group::Early;
+        return Some(Half::Early(k));
     }
-    if k < Doubled::<B>::width() / 8 {
-        return Group::Late(k - half);
-    }
-    Group::Beyond
+    (k < Doubled::<B>::width() / 8).then(|| Half::Late(k - half))
 }
 
 // The place `p` of the later half as a place of the whole, or none where that is beyond the answered width.
@@ -76,11 +49,15 @@ fn behind<B: Block>(p: usize) -> Option<usize>
     ensures { Place B.Block.places p result }
 {
     let q = B::width().saturating_add(p);
-    if q < Doubled::<B>::width() {
-        Some(q)
-    } else {
-        None
-    }
+    (q < Doubled::<B>::width()).then_some(q)
+}
+
+// The first one from the place `i` of the whole on, where the earlier half has none.
+fn first_late<B: Block>(late: B, i: usize) -> Option<usize>
+    ensures { (early : List Bool) → length early ≡ B.Block.places → First B.Block.places early i None → First (B.Block.places + B.Block.places) (early ++ B.Block.row late) i result }
+{
+    let p = late.first(i.saturating_sub(B::width()))?;
+    behind::<B>(p)
 }
 
 impl<B: Block> Block for Doubled<B> {
@@ -122,43 +99,42 @@ impl<B: Block> Block for Doubled<B> {
         join(self.early.not(), self.late.not())
     }
 
+    // The bit that falls out of the earlier half enters the later.
     fn advance(self, enter: bool) -> (Doubled<B>, bool) {
-        let ((early, _), (late, out)) = advance_halves(self, enter);
+        let (early, middle) = self.early.advance(enter);
+        let (late, out) = self.late.advance(middle);
         (Doubled { early, late }, out)
     }
 
     fn add(self, other: Doubled<B>, enter: bool) -> (Doubled<B>, bool) {
-        let ((early, _), (late, out)) = add_halves(self, other, enter);
+        let (early, middle) = self.early.add(other.early, enter);
+        let (late, out) = self.late.add(other.late, middle);
         (Doubled { early, late }, out)
     }
 
     fn put(self, k: usize, byte: u8) -> Doubled<B> {
         match find::<B>(k) {
-            Group::Early => Doubled {
-                early: self.early.put(k, byte),
-                late: self.late,
+            Some(Half::Early(n)) => Doubled {
+                early: self.early.put(n, byte),
+                ..self
             },
-            Group::Late(n) => Doubled {
-                early: self.early,
+            Some(Half::Late(n)) => Doubled {
                 late: self.late.put(n, byte),
+                ..self
             },
-            Group::Beyond => self,
+            None => self,
         }
     }
 
     fn read(self, k: usize) -> u8 {
         match find::<B>(k) {
-            Group::Early => self.early.read(k),
-            Group::Late(n) => self.late.read(n),
-            Group::Beyond => 0,
+            Some(Half::Early(n)) => self.early.read(n),
+            Some(Half::Late(n)) => self.late.read(n),
+            None => 0,
         }
     }
 
     fn first(self, i: usize) -> Option<usize> {
-        if let Some(p) = self.early.first(i) {
-            return Some(p);
-        }
-        let p = self.late.first(i.saturating_sub(B::width()))?;
-        behind::<B>(p)
+        self.early.first(i).or_else(|| first_late(self.late, i))
     }
 }

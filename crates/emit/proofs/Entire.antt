@@ -1,6 +1,7 @@
 -- The program of a whole form. Assumes nothing.
 use Rattle.std.proofs.Common.{◌≡◌, ℕ, ◌+◌, ◌≤◌, false, [], length, None, refl, ap, subst, arith}
 use Rattle.form.specs.Form.{Form, weight}
+use Rattle.limits.specs.Limits.{heaviest}
 use Rattle.theory.specs.Pattern.{Pattern}
 use Rattle.theory.specs.Passes.{stars}
 use Rattle.theory.specs.Written.{classes, written, stretch}
@@ -8,7 +9,6 @@ use Rattle.program.specs.Numbered.{leaves}
 use Rattle.program.specs.Compile.{stars_at, steps, unions}
 use Rattle.program.specs.Sizes.{class_count}
 use Rattle.program.proofs.Sizes.{form_rows_lem}
-use Rattle.classes.specs.Limit.{heaviest}
 use Rattle.emit.specs.Coding.{steps_of, Went, Writes}
 use Rattle.emit.specs.Walking.{Walks}
 use Rattle.emit.specs.declared.code.Code.{Code}

@@ -1,9 +1,9 @@
 -- The steps of patterns, from those of their parts. Assumes nothing.
-use Rattle.std.proofs.Common.{◌≡◌, ℕ, suc, ◌+◌, ◌≤◌, Bool, true, false, cond, List, [], ◌∷◌, ◌++◌, length, Some, None, Option, sym, refl, ap, ◌∙◌, subst, append_assoc, arith, length-append}
+use Rattle.std.proofs.Common.{◌≡◌, ℕ, suc, ◌+◌, ◌≤◌, Bool, true, false, cond, List, [], ◌∷◌, ◌++◌, length, Some, None, Option, sym, refl, ap, ◌∙◌, subst, append_assoc, append-nil, arith, length-append}
 use Rattle.theory.specs.Pattern.{Pattern, leaf, plus, eps, seq, alt, opt, star}
 use Rattle.theory.specs.Passes.{stars}
 use Rattle.program.specs.declared.Step.{Step}
-use Rattle.program.specs.declared.Step.TheVariants.{Take, Run, More, Save, Load, Or, Grow}
+use Rattle.program.specs.declared.Step.TheVariants.{Take, More, Save, Load, Or, Grow}
 use Rattle.program.specs.Numbered.{leaves}
 use Rattle.program.specs.Compile.{classes_at, unions, unions_into, steps, into}
 use Rattle.emit.specs.Limit.{longest}
@@ -42,6 +42,18 @@ both {x} {y} {z} {L} {M} {k} {s} {a} {k'} {s'} {a'} p q room hk hs ha =
     let v = p (omega arith) (omega arith) (omega arith) (omega arith) in
     let n = long v in
     then v (q (omega arith) (omega arith) (omega arith) (omega arith))
+
+-- ---- numbers that are taken
+
+module _ (x y : Code) (written : steps_of y ≡ steps_of x) where
+  pub carry_taken : (x.carry + 1 ≤ top → y.carry ≡ x.carry + 1) → y.star ≡ x.star → y.gather ≡ x.gather → Does x y [] 1 0 0
+  carry_taken k s a room hk hs ha = record { written = written ∙ sym (append-nil (steps_of x)); carries = k hk; rows = omega arith; gathering = omega arith }
+
+  pub star_taken : (x.star + 1 ≤ top → y.star ≡ x.star + 1) → y.carry ≡ x.carry → y.gather ≡ x.gather → Does x y [] 0 1 0
+  star_taken s k a room hk hs ha = record { written = written ∙ sym (append-nil (steps_of x)); carries = omega arith; rows = s hs; gathering = omega arith }
+
+  pub gather_taken : (x.gather + 1 ≤ top → y.gather ≡ x.gather + 1) → y.carry ≡ x.carry → y.star ≡ x.star → Does x y [] 0 0 1
+  gather_taken a k s room hk hs ha = record { written = written ∙ sym (append-nil (steps_of x)); carries = omega arith; rows = omega arith; gathering = a ha }
 
 -- ---- patterns of one step
 
@@ -95,9 +107,6 @@ module _ (c k n cls : ℕ) (at : cls ≡ classes_at + c) (with : n ≡ k) where
   take-into true st s a d r e = ap (λ t. t ∷ Or r ∷ []) (sym (e ∙ step_is true))
   take-into false st s a d r e = ap (λ t. t ∷ Or r ∷ []) (sym (e ∙ step_is false))
 
-  pub run_is : Run (classes_at + c) k ≡ Run cls n
-  run_is = λ i. Run (sym at i) (sym with i)
-
 pub take-leaves : (b : Bool) (c : ℕ) → leaves (cond b (plus c) (leaf c)) ≡ 1
 take-leaves true c = refl
 take-leaves false c = refl
@@ -113,23 +122,6 @@ take-unions false c = refl
 pub take_own : (b : Bool) (c : ℕ) → unions_into (cond b (plus c) (leaf c)) ≡ 0
 take_own true c = refl
 take_own false c = refl
-
--- the marks at the places of a row
-module _ (d : ℕ) (P : Pattern) (st : Step) (x x₁ y : Code) where
-  pub keep_writes : (m : Option ℕ) → leaves P ≡ 0 → stars P ≡ 0 → unions P ≡ 0 → unions_into P ≡ 0 → steps P x.carry x.star x.gather d ≡ st ∷ [] → ((r : ℕ) → into P x.carry x.star x.gather d r ≡ st ∷ Or r ∷ [])
-      → Does x x₁ (st ∷ []) 0 0 0 → Writes m d eps x₁ y → Writes m d P x y
-  keep_writes None lk ls lu li e f p w deep room hk hs ha =
-      let l = ap length e in
-      let w₁ = p (omega arith) (omega arith) (omega arith) (omega arith) in
-      let l₁ = long w₁ in
-      let w₂ = w (omega arith) (omega arith) (omega arith) (omega arith) (omega arith) in
-      subst (λ L. Went x y L (leaves P) (stars P) (unions P)) (sym e) (counts (then w₁ w₂) (omega arith) (omega arith) (omega arith))
-  keep_writes (Some r) lk ls lu li e f p w deep room hk hs ha =
-      let l = ap length (f r) in
-      let w₁ = p (omega arith) (omega arith) (omega arith) (omega arith) in
-      let l₁ = long w₁ in
-      let w₂ = w (omega arith) (omega arith) (omega arith) (omega arith) (omega arith) in
-      subst (λ L. Went x y L (leaves P) (stars P) (unions_into P)) (sym (f r)) (counts (then w₁ w₂) (omega arith) (omega arith) (omega arith))
 
 -- ---- unions
 

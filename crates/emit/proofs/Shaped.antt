@@ -1,6 +1,7 @@
 -- What the patterns of forms are like, by the forms' nodes. Assumes nothing.
 use Rattle.std.proofs.Common.{◌≡◌, ℕ, zero, suc, ◌+◌, ◌-◌, ◌<◌, ◌≤◌, Bool, true, false, cond, ◌&&◌, ◌||◌, eqb, ltb, leb, List, [], ◌∷◌, length, sym, refl, ap, ◌∙◌, arith}
 use mathlib.Core.Bool.{and-true, or-false}
+use Rattle.std.proofs.Math.Bool.{and_self}
 use Rattle.std.proofs.lemmas.List.{length-take, length-drop}
 use Rattle.std.proofs.lemmas.Bool.Decides.{nat_tests}
 use Rattle.std.proofs.lemmas.Bool.{le-leb, lt-leb, eq-eqb, ne_eqb}
@@ -11,7 +12,7 @@ use Rattle.tree.specs.declared.node.Node.{Node}
 use Rattle.tree.specs.declared.node.Node.TheVariants as node
 use Rattle.tree.specs.declared.store.Tree.{Tree}
 use Rattle.tree.specs.Stands.{bytes_of, Piece, StandAll, Stands}
-use Rattle.classes.proofs.Shapes.{Shape, a_quote, a_set, an_out, a_seq, an_or, a_star, a_rep, a_start, an_end, Row, no_form, a_form}
+use Rattle.tree.proofs.Shapes.{Shape, a_quote, a_set, an_out, a_seq, an_or, a_star, a_rep, a_start, an_end, Row, no_form, a_form}
 use Rattle.emit.specs.Walking.{is_leaf, is_nil}
 
 -- ---- quotes
@@ -55,16 +56,12 @@ loop_leaf (Pattern.star F) = refl
 loop_leaf head = refl
 loop_leaf tail = refl
 
-both_same : (b : Bool) → (b && b) ≡ b
-both_same true = refl
-both_same false = refl
-
 pub copies_empty : (n : ℕ) (P : Pattern) → empty (copies n P) ≡ (eqb n 0 || empty P)
 copies_empty zero P = refl
 copies_empty (suc zero) P = and-true (empty P)
 copies_empty (suc (suc n)) P =
     ap (λ b. empty P && b) (copies_empty (suc n) P ∙ ap (λ b. b || empty P) (ne_eqb (suc n) 0 (λ e. omega arith)))
-    ∙ both_same (empty P) ∙ sym (ap (λ b. b || empty P) (ne_eqb (suc (suc n)) 0 (λ e. omega arith)))
+    ∙ and_self (empty P) ∙ sym (ap (λ b. b || empty P) (ne_eqb (suc (suc n)) 0 (λ e. omega arith)))
 
 pub up_to_empty : (d : ℕ) (P : Pattern) → empty (up_to d P) ≡ true
 up_to_empty zero P = refl
@@ -123,11 +120,11 @@ module _ (c : ℕ) where
 
   nil_true : (fs : Forms) (d : ℕ) → is_nil fs ≡ true → empty (in_order_of fs d) ≡ true
   nil_true nil d h = refl
-  nil_true (cons f fs) d h = let z : ◌≡◌ {A = ℕ} 0 1 = cc in absurd (omega arith)
+  nil_true (cons f fs) d h = absurd (cc)
 
   nil_false : (fs : Forms) (d : ℕ) → is_nil fs ≡ true → empty (one_of fs d) ≡ false
   nil_false nil d h = refl
-  nil_false (cons f fs) d h = let z : ◌≡◌ {A = ℕ} 0 1 = cc in absurd (omega arith)
+  nil_false (cons f fs) d h = absurd (cc)
 
   pub all_cons : {t : Tree} {fs : Forms} (i j : ℕ) (q r : Bool) → Row t fs (node.Cons i j) → ((f : Form) (c : ℕ) → Stands t f i → q ≡ empty (pattern f c)) → ((gs : Forms) (c : ℕ) → StandAll t gs j → r ≡ empty (in_order_of gs c)) → (q && r) ≡ empty (in_order_of fs c)
   all_cons i j q r (a_form {f = f} {fs = gs} a b) h k =
@@ -215,10 +212,3 @@ module _ (c : ℕ) where
 
 pub falls_test : (l m : ℕ) → ltb m l ≡ cond (leb l m) false true
 falls_test l m = grind (arith, nat_tests)
-
-pub nil_cons : {t : Tree} {fs : Forms} (i j : ℕ) → Row t fs (node.Cons i j) → false ≡ is_nil fs
-nil_cons i j (a_form a b) = refl
-
-pub nil_rest : {t : Tree} {fs : Forms} {n : Node} → Row t fs n → ((i j : ℕ) → n ≡ node.Cons i j → ⊥) → true ≡ is_nil fs
-nil_rest no_form h = refl
-nil_rest (a_form {i = i} {j = j} a b) h = absurd (h i j refl)

@@ -1,6 +1,7 @@
 -- What a walk over a form's nodes writes, from what it writes of the parts. Assumes nothing.
-use Rattle.std.proofs.Common.{◌≡◌, ℕ, suc, ◌+◌, ◌-◌, ◌<◌, ◌≤◌, Bool, true, false, cond, ◌&&◌, ◌||◌, eqb, leb, List, [], ◌∷◌, length, Some, None, Option, sym, refl, ap, ◌∙◌, subst, ⊎_elim, append-nil, arith, length-append}
+use Rattle.std.proofs.Common.{◌≡◌, ℕ, zero, suc, ◌+◌, ◌-◌, ◌<◌, ◌≤◌, Bool, true, false, cond, ◌&&◌, ◌||◌, eqb, leb, List, [], ◌∷◌, length, drop, Some, None, Option, sym, refl, ap, ◌∙◌, subst, ⊎_elim, append-nil, arith, length-append}
 use mathlib.Core.Bool.{and-true}
+use Rattle.std.proofs.Math.Bool.{and-false}
 use Rattle.std.proofs.lemmas.List.{length-map}
 use Rattle.std.proofs.lemmas.Bool.{cases_eq, le-leb, lt-leb, eq-eqb, ne_eqb}
 use Rattle.form.specs.Form.{Form, Forms, quote, set, out, seq, or, star, rep, start, end, nil, cons}
@@ -12,7 +13,7 @@ use Rattle.tree.specs.declared.node.Node.{Node}
 use Rattle.tree.specs.declared.node.Node.TheVariants as node
 use Rattle.tree.specs.declared.store.Tree.{Tree}
 use Rattle.tree.specs.Stands.{StandAll, Stands}
-use Rattle.classes.proofs.Shapes.{Shape, a_quote, a_set, an_out, a_seq, an_or, a_star, a_rep, a_start, an_end, Row, no_form, a_form}
+use Rattle.tree.proofs.Shapes.{Shape, a_quote, a_set, an_out, a_seq, an_or, a_star, a_rep, a_start, an_end, Row, no_form, a_form}
 use Rattle.emit.specs.Coding.{steps_of, top, Does, Writes}
 use Rattle.emit.specs.Walking.{is_leaf, is_nil, Walks}
 use Rattle.emit.specs.declared.code.Code.{Code}
@@ -34,10 +35,6 @@ stretch_none l (Pattern.star F) = refl
 stretch_none l head = refl
 stretch_none l tail = refl
 
-and_none : (b : Bool) → (b && false) ≡ false
-and_none true = refl
-and_none false = refl
-
 -- ---- quotes
 
 -- of several bytes none is stretched
@@ -45,31 +42,48 @@ spelt_more : (f l : Bool) (b e : ℕ) (bs : List ℕ) (c : ℕ) → stretch f l 
 spelt_more f l b e bs c =
     let G : Pattern = spelt (e ∷ bs) (suc c) in
     let no : empty G ≡ false = spelt_empty (e ∷ bs) (suc c) ∙ ne_eqb (length (e ∷ bs)) 0 (λ z. omega arith) in
-    let one : (f && (l && empty G)) ≡ false = ap (λ v. f && (l && v)) no ∙ ap (λ v. f && v) (and_none l) ∙ and_none f in
-    (λ i. Pattern.seq (cond (one i) (plus c) (leaf c)) (stretch (and_none f i) l G)) ∙ ap (λ P. Pattern.seq (leaf c) P) (stretch_none l G ∙ sym (stretch_none false G))
+    let one : (f && (l && empty G)) ≡ false = ap (λ v. f && (l && v)) no ∙ ap (λ v. f && v) (and-false l) ∙ and-false f in
+    (λ i. Pattern.seq (cond (one i) (plus c) (leaf c)) (stretch (and-false f i) l G)) ∙ ap (λ P. Pattern.seq (leaf c) P) (stretch_none l G ∙ sym (stretch_none false G))
 
-module _ (m : Option ℕ) (d c : ℕ) (f l : Bool) (x y : Code) where
-  pub quote_none : (bs : List ℕ) → length bs ≡ 0 → Writes m d eps x y → Writes m d (stretch f l (spelt bs c)) x y
-  quote_none [] h w = w
-  quote_none (b ∷ bs) h w = absurd (omega arith)
+-- what is left from the byte k on, which is not the last, or is
+spelt_step : (bs : List ℕ) (k n : ℕ) → suc k < length bs → spelt (drop k bs) n ≡ Pattern.seq (leaf n) (spelt (drop (suc k) bs) (suc n))
+spelt_step [] k n h = absurd (omega arith)
+spelt_step (b ∷ []) k n h = absurd (omega arith)
+spelt_step (b ∷ (e ∷ bs)) zero n h = refl
+spelt_step (b ∷ (e ∷ bs)) (suc k) n h = spelt_step (e ∷ bs) k n (omega arith)
 
-  pub quote_one : (bs : List ℕ) (s : Bool) → length bs ≡ 1 → s ≡ (f && l) → Writes m d (cond s (plus c) (leaf c)) x y → Writes m d (stretch f l (spelt bs c)) x y
-  quote_one [] s h e w = absurd (omega arith)
-  quote_one (b ∷ []) s h e w = subst (λ v. Writes m d (cond v (plus c) (leaf c)) x y) e w
-  quote_one (b ∷ (b' ∷ bs)) s h e w = absurd (omega arith)
+spelt_last : (bs : List ℕ) (k n : ℕ) → suc k ≡ length bs → spelt (drop k bs) n ≡ leaf n
+spelt_last [] k n h = absurd (omega arith)
+spelt_last (b ∷ []) zero n h = refl
+spelt_last (b ∷ []) (suc k) n h = absurd (omega arith)
+spelt_last (b ∷ (e ∷ bs)) zero n h = absurd (omega arith)
+spelt_last (b ∷ (e ∷ bs)) (suc k) n h = spelt_last (e ∷ bs) k n (omega arith)
 
-  pub quote_more : (z : Code) (n c' r : ℕ) (bs : List ℕ) → length bs ≡ n → (n ≡ 0 → ⊥) → (n ≡ 1 → ⊥) → c + n ≤ top → c' ≡ suc c → Writes None d (leaf c) x y
-      → ((bs : List ℕ) (f l : Bool) (d : ℕ) → length bs ≡ n - 1 → false ≡ (f && l) → c' + (n - 1) ≤ top → (r ≡ c' + (n - 1)) × Writes m d (stretch f l (spelt bs c')) y z)
-      → (r ≡ c + n) × Writes m d (stretch f l (spelt bs c)) x z
-  quote_more z n c' r [] h a b few e v k = absurd (a (sym h))
-  quote_more z n c' r (p ∷ []) h a b few e v k = absurd (b (sym h))
-  quote_more z n c' r (p ∷ (q ∷ bs)) h a b few e v k =
-      let w = k (q ∷ bs) false false d (omega arith) refl (omega arith) in (
-        w.0 ∙ omega arith,
-        subst (λ P. Writes m d P x z) (sym (spelt_more f l p q bs c))
-            (seq_writes m d (leaf c) (stretch false false (spelt (q ∷ bs) (suc c))) x y z v
-            (subst (λ j. Writes m d (stretch false false (spelt (q ∷ bs) j)) y z) e w.1)),
-      )
+stretch_more : (f l : Bool) (bs : List ℕ) (c : ℕ) → 1 < length bs → stretch f l (spelt bs c) ≡ spelt bs c
+stretch_more f l [] c h = absurd (omega arith)
+stretch_more f l (b ∷ []) c h = absurd (omega arith)
+stretch_more f l (b ∷ (e ∷ bs)) c h = spelt_more f l b e bs c ∙ ap (λ P. Pattern.seq (leaf c) P) (stretch_none false (spelt (e ∷ bs) (suc c)))
+
+module _ (m : Option ℕ) (d : ℕ) where
+  -- a byte that others follow
+  pub quote_step : (x y z : Code) (bs : List ℕ) (k k' n n' : ℕ) → k' ≡ suc k → n' ≡ suc n → k' < length bs → Writes None d (leaf n) x y → Writes m d (spelt (drop k' bs) n') y z → Writes m d (spelt (drop k bs) n) x z
+  quote_step x y z bs k k' n n' p q h v w =
+      subst (λ P. Writes m d P x z) (sym (spelt_step bs k n (omega arith)))
+      (seq_writes m d (leaf n) (spelt (drop (suc k) bs) (suc n)) x y z v (subst (λ a. Writes m d (spelt (drop a bs) (suc n)) y z) p (subst (λ b. Writes m d (spelt (drop k' bs) b) y z) q w)))
+
+  -- the last byte, which may be stretched where it is the only one
+  pub quote_end : (c n k : ℕ) (f l s : Bool) (bs : List ℕ) (x y z : Code) → suc k ≡ length bs → n ≡ c + k → s ≡ ((f && l) && eqb k 0) → (k ≡ 0 → y ≡ x)
+      → (Writes m d (spelt (drop k bs) n) y z → Writes m d (spelt bs c) x z) → Writes m d (cond s (plus n) (leaf n)) y z → Writes m d (stretch f l (spelt bs c)) x z
+  quote_end c n zero f l s (b ∷ []) x y z h at is same k w =
+      let here : n ≡ c = omega arith in
+      let alone : s ≡ (f && l) = is ∙ and-true (f && l) in
+      subst (λ v. Writes m d (cond (f && l) (plus v) (leaf v)) x z) here (subst (λ u. Writes m d (cond (f && l) (plus n) (leaf n)) u z) (same refl) (subst (λ b. Writes m d (cond b (plus n) (leaf n)) y z) alone w))
+  quote_end c n zero f l s [] x y z h at is same k w = absurd (omega arith)
+  quote_end c n zero f l s (b ∷ (e ∷ bs)) x y z h at is same k w = absurd (omega arith)
+  quote_end c n (suc j) f l s bs x y z h at is same k w =
+      let no : s ≡ false = is ∙ ap (λ b. (f && l) && b) (ne_eqb (suc j) 0 (λ e. omega arith)) ∙ and-false (f && l) in
+      subst (λ P. Writes m d P x z) (sym (stretch_more f l bs c (omega arith)))
+      (k (subst (λ P. Writes m d P y z) (sym (spelt_last bs (suc j) n h)) (subst (λ b. Writes m d (cond b (plus n) (leaf n)) y z) no w)))
 
 -- ---- forms
 
@@ -110,7 +124,7 @@ end_walks c place x y an_end w few = (omega arith, w)
 -- ---- lists
 
 not_nil : (nf : Bool) → nf ≡ true → nf ≡ false → ⊥
-not_nil nf a b = let z : ◌≡◌ {A = ℕ} 0 1 = cc in omega arith
+not_nil nf a b = cc
 
 module _ (c r : ℕ) (place : Place) (x y : Code) where
   pub order_one : {t : Tree} {fs : Forms} (i j : ℕ) (nf : Bool) → Row t fs (node.Cons i j) → ((gs : Forms) → StandAll t gs j → nf ≡ is_nil gs) → nf ≡ true
@@ -138,12 +152,12 @@ pub either_rest : {t : Tree} {fs : Forms} {n : Node} (c r : ℕ) (place : Place)
 either_rest c r place x y no_form h w = w
 either_rest c r place x y (a_form {i = i} {j = j} a b) h w = absurd (h i j refl)
 
-module _ (c r next : ℕ) (place p q : Place) (last first : Bool) (x y z : Code) where
+module _ (c r next : ℕ) (place p q : Place) (ahead behind : Bool) (x y z : Code) where
   pub order_more : {t : Tree} {fs : Forms} (i j : ℕ) (nf : Bool) → Row t fs (node.Cons i j) → ((gs : Forms) → StandAll t gs j → nf ≡ is_nil gs) → nf ≡ false
-      → ((gs : Forms) (c : ℕ) → StandAll t gs j → last ≡ (place.last && empty (in_order_of gs c)))
-      → ((f : Form) (c : ℕ) → Stands t f i → first ≡ (place.first && empty (pattern f c)))
-      → p ≡ record { first = place.first; last = last; into = None; depth = place.depth }
-      → q ≡ record { first = first; last = place.last; into = place.into; depth = place.depth }
+      → ((gs : Forms) (c : ℕ) → StandAll t gs j → ahead ≡ empty (in_order_of gs c))
+      → ((f : Form) (c : ℕ) → Stands t f i → behind ≡ empty (pattern f c))
+      → p ≡ record { first = place.first; last = place.last && ahead; into = None; depth = place.depth }
+      → q ≡ record { first = place.first && behind; last = place.last; into = place.into; depth = place.depth }
       → ((f : Form) → Stands t f i → Walks c (length (classes f)) next p (pattern f c) x y)
       → ((gs : Forms) → StandAll t gs j → Walks next (length (all_classes gs)) r q (in_order_of gs next) y z)
       → Walks c (length (all_classes fs)) r place (in_order_of fs c) x z
@@ -158,11 +172,11 @@ module _ (c r next : ℕ) (place p q : Place) (last first : Bool) (x y z : Code)
       let at : next ≡ n = A.0 in
       let B = k' hs b (omega arith) in
       let v : Writes None place.depth (stretch place.first (place.last && empty G) F) x y =
-      subst (λ s. Writes None place.depth (stretch place.first s F) x y) (ls hs n b) (subst (λ s. Writes s.into s.depth (stretch s.first s.last F) x y) ps A.1) in
-      let w₁ : Writes place.into place.depth (stretch first place.last (in_order_of hs next)) y z =
+      subst (λ s. Writes None place.depth (stretch place.first s F) x y) (ap (λ b. place.last && b) (ls hs n b)) (subst (λ s. Writes s.into s.depth (stretch s.first s.last F) x y) ps A.1) in
+      let w₁ : Writes place.into place.depth (stretch (place.first && behind) place.last (in_order_of hs next)) y z =
       subst (λ s. Writes s.into s.depth (stretch s.first s.last (in_order_of hs next)) y z) qs B.1 in
       let w : Writes place.into place.depth (stretch (place.first && empty F) place.last G) y z =
-      subst (λ s. Writes place.into place.depth (stretch s place.last G) y z) (fi f c a) (subst (λ s. Writes place.into place.depth (stretch first place.last (in_order_of hs s)) y z) at w₁) in
+      subst (λ s. Writes place.into place.depth (stretch s place.last G) y z) (ap (λ b. place.first && b) (fi f c a)) (subst (λ s. Writes place.into place.depth (stretch (place.first && behind) place.last (in_order_of hs s)) y z) at w₁) in
       (B.0 ∙ omega arith, seq_writes place.into place.depth (stretch place.first (place.last && empty G) F) (stretch (place.first && empty F) place.last G) x y z v w)
 
 -- ---- unions
@@ -216,7 +230,7 @@ module _ (c r next q : ℕ) (place p : Place) (x : Code) {t : Tree} (f : Form) (
 -- ---- stars
 
 loops : (P : Pattern) → is_leaf P ≡ false → loop P ≡ Pattern.star (stretch true true P)
-loops (leaf c) h = let z : ◌≡◌ {A = ℕ} 0 1 = cc in absurd (omega arith)
+loops (leaf c) h = absurd (cc)
 loops (many c) h = refl
 loops (plus c) h = refl
 loops eps h = refl
@@ -233,9 +247,9 @@ record Lone (F : Form) (c : ℕ) : Type 0 where
   pub one : length (classes F) ≡ 1
 
 spelt_lone : (bs : List ℕ) (c : ℕ) → is_leaf (spelt bs c) ≡ true → Lone (quote bs) c
-spelt_lone [] c h = let z : ◌≡◌ {A = ℕ} 0 1 = cc in absurd (omega arith)
+spelt_lone [] c h = absurd (cc)
 spelt_lone (b ∷ []) c h = record { is = refl; one = refl }
-spelt_lone (b ∷ (e ∷ bs)) c h = let z : ◌≡◌ {A = ℕ} 0 1 = cc in absurd (omega arith)
+spelt_lone (b ∷ (e ∷ bs)) c h = absurd (cc)
 
 rep_lone : (l m : ℕ) (F : Form) (c : ℕ) → is_leaf (pattern (rep l m F) c) ≡ true → Lone (rep l m F) c
 rep_lone l m F c = go (leb l m) refl
@@ -244,20 +258,20 @@ rep_lone l m F c = go (leb l m) refl
     A = Pattern.seq (copies l (pattern F c)) (up_to (m - l) (pattern F c))
 
     go : (b : Bool) → leb l m ≡ b → is_leaf (cond (leb l m) A (leaf c)) ≡ true → Lone (rep l m F) c
-    go true e h = let g : is_leaf (cond true A (leaf c)) ≡ true = subst (λ b. is_leaf (cond b A (leaf c)) ≡ true) e h in let z : ◌≡◌ {A = ℕ} 0 1 = cc in absurd (omega arith)
+    go true e h = let g : is_leaf (cond true A (leaf c)) ≡ true = subst (λ b. is_leaf (cond b A (leaf c)) ≡ true) e h in absurd (cc)
     go false e h = record { is = ap (λ b. cond b A (leaf c)) e; one = ap (λ b. length (cond b (cond (eqb m 0) [] (classes F)) (nothing ∷ []))) e }
 
 loop_lone : (P : Pattern) → is_leaf (loop P) ≡ true → ⊥
-loop_lone (leaf c) h = let z : ◌≡◌ {A = ℕ} 0 1 = cc in omega arith
-loop_lone (many c) h = let z : ◌≡◌ {A = ℕ} 0 1 = cc in omega arith
-loop_lone (plus c) h = let z : ◌≡◌ {A = ℕ} 0 1 = cc in omega arith
-loop_lone eps h = let z : ◌≡◌ {A = ℕ} 0 1 = cc in omega arith
-loop_lone (Pattern.seq F G) h = let z : ◌≡◌ {A = ℕ} 0 1 = cc in omega arith
-loop_lone (Pattern.alt F G) h = let z : ◌≡◌ {A = ℕ} 0 1 = cc in omega arith
-loop_lone (Pattern.opt F) h = let z : ◌≡◌ {A = ℕ} 0 1 = cc in omega arith
-loop_lone (Pattern.star F) h = let z : ◌≡◌ {A = ℕ} 0 1 = cc in omega arith
-loop_lone head h = let z : ◌≡◌ {A = ℕ} 0 1 = cc in omega arith
-loop_lone tail h = let z : ◌≡◌ {A = ℕ} 0 1 = cc in omega arith
+loop_lone (leaf c) h = cc
+loop_lone (many c) h = cc
+loop_lone (plus c) h = cc
+loop_lone eps h = cc
+loop_lone (Pattern.seq F G) h = cc
+loop_lone (Pattern.alt F G) h = cc
+loop_lone (Pattern.opt F) h = cc
+loop_lone (Pattern.star F) h = cc
+loop_lone head h = cc
+loop_lone tail h = cc
 
 mutual
   lone : (F : Form) (c : ℕ) → is_leaf (pattern F c) ≡ true → Lone F c
@@ -268,18 +282,18 @@ mutual
   lone (or fs) c h = let r = lone_or fs c h in record { is = r.0; one = r.1 }
   lone (star F) c h = absurd (loop_lone (pattern F c) h)
   lone (rep l m F) c h = rep_lone l m F c h
-  lone start c h = let z : ◌≡◌ {A = ℕ} 0 1 = cc in absurd (omega arith)
-  lone end c h = let z : ◌≡◌ {A = ℕ} 0 1 = cc in absurd (omega arith)
+  lone start c h = absurd (cc)
+  lone end c h = absurd (cc)
 
   lone_seq : (fs : Forms) (c : ℕ) → is_leaf (in_order_of fs c) ≡ true → (in_order_of fs c ≡ leaf c) × (length (all_classes fs) ≡ 1)
-  lone_seq nil c h = let z : ◌≡◌ {A = ℕ} 0 1 = cc in absurd (omega arith)
+  lone_seq nil c h = absurd (cc)
   lone_seq (cons F nil) c h = let r = lone F c h in (r.is, ap length (append-nil (classes F)) ∙ r.one)
-  lone_seq (cons F (cons G fs)) c h = let z : ◌≡◌ {A = ℕ} 0 1 = cc in absurd (omega arith)
+  lone_seq (cons F (cons G fs)) c h = absurd (cc)
 
   lone_or : (fs : Forms) (c : ℕ) → is_leaf (one_of fs c) ≡ true → (one_of fs c ≡ leaf c) × (length (or_nothing fs (all_classes fs)) ≡ 1)
   lone_or nil c h = (refl, refl)
   lone_or (cons F nil) c h = let r = lone F c h in (r.is, ap length (append-nil (classes F)) ∙ r.one)
-  lone_or (cons F (cons G fs)) c h = let z : ◌≡◌ {A = ℕ} 0 1 = cc in absurd (omega arith)
+  lone_or (cons F (cons G fs)) c h = absurd (cc)
 
 pub run_walks : (c r : ℕ) (place : Place) (x y : Code) (F : Form) → is_leaf (pattern F c) ≡ true → (c + 1 ≤ top → r ≡ c + 1) → (c ≤ top → Writes place.into place.depth (many c) x y) → Walks c (length (classes F)) r place (pattern (star F) c) x y
 run_walks c r place x y F h e w few =
@@ -311,6 +325,10 @@ module _ (c r : ℕ) (place : Place) (x y : Code) (l m : ℕ) (F : Form) where
   pub falling_walks : m < l → Walks c 1 r place (leaf c) x y → Walks c (length (classes (rep l m F))) r place (pattern (rep l m F) c) x y
   falling_walks h w = subst (λ b. Walks c (length (cond b (cond (eqb m 0) [] (classes F)) (nothing ∷ []))) r place (cond b A (leaf c)) x y) (sym (lt-leb l m h)) w
 
+settled : (b : Bool) (v : ℕ) → cond b v v ≡ v
+settled true v = refl
+settled false v = refl
+
 -- the number behind the classes of copies, of which there are some or none
 abbrev counted : ℕ → ℕ → ℕ → ℕ
 counted n next some = cond (eqb n 0) next some
@@ -319,12 +337,8 @@ counted_all : (l m next some : ℕ) → l ≤ m → counted (m - l) (counted l n
 counted_all l m next some h = ⊎_elim
     (λ e. let z : eqb l 0 ≡ true = eq-eqb l 0 e in let g : m - l ≡ m = omega arith in (λ i. cond (eqb (g i) 0) (cond (z i) next some) some))
     (λ e. let z : eqb l 0 ≡ false = ne_eqb l 0 e in let g : eqb m 0 ≡ false = ne_eqb m 0 (λ u. e (omega arith)) in
-    (λ i. cond (eqb (m - l) 0) (cond (z i) next some) some) ∙ always (eqb (m - l) 0) some ∙ sym (ap (λ b. cond b next some) g))
+    (λ i. cond (eqb (m - l) 0) (cond (z i) next some) some) ∙ settled (eqb (m - l) 0) some ∙ sym (ap (λ b. cond b next some) g))
     (cases_eq l 0)
-  where
-    always : (b : Bool) (v : ℕ) → cond b v v ≡ v
-    always true v = refl
-    always false v = refl
 
 -- no copy at all
 pub never_walks : (c : ℕ) (place : Place) (x y : Code) (l m : ℕ) (F : Form) → l ≤ m → m ≡ 0 → Writes place.into place.depth eps x y → Walks c (length (classes (rep l m F))) c place (pattern (rep l m F) c) x y
@@ -340,25 +354,25 @@ never_walks c place x y l m F h z w =
     same : (x : Code) → Writes None place.depth eps x x
     same x deep room hk hs ha = record { written = sym (append-nil (steps_of x)); carries = omega arith; rows = omega arith; gathering = omega arith }
 
-module _ (c r next : ℕ) (place p q : Place) (first skipped : Bool) (x y z : Code) (l m : ℕ) (F : Form) where
-  pub repeat_walks : (n : ℕ) → n ≡ m - l → l ≤ m → (m ≡ 0 → ⊥) → skipped ≡ empty (pattern F c) → first ≡ (place.first && (eqb l 0 || skipped))
-      → p ≡ record { first = place.first; last = place.last; into = None; depth = place.depth }
-      → q ≡ record { first = first; last = place.last; into = place.into; depth = place.depth }
+module _ (c r next : ℕ) (place p q : Place) (skips skipped : Bool) (x y z : Code) (l m : ℕ) (F : Form) where
+  pub repeat_walks : l ≤ m → (m ≡ 0 → ⊥) → skipped ≡ empty (pattern F c) → skips ≡ (eqb l 0 || skipped)
+      → p ≡ record { first = place.first; last = place.last && true; into = None; depth = place.depth }
+      → q ≡ record { first = place.first && skips; last = place.last; into = place.into; depth = place.depth }
       → (p.into ≡ None → c + length (classes F) ≤ top → (next ≡ cond (eqb l 0) c (c + length (classes F))) × Writes p.into p.depth (stretch p.first p.last (copies l (pattern F c))) x y)
-      → (c + length (classes F) ≤ top → (r ≡ cond (eqb n 0) next (c + length (classes F))) × Writes q.into q.depth (stretch q.first q.last (up_to n (pattern F c))) y z)
+      → (c + length (classes F) ≤ top → (r ≡ cond (eqb (m - l) 0) next (c + length (classes F))) × Writes q.into q.depth (stretch q.first q.last (up_to (m - l) (pattern F c))) y z)
       → Walks c (length (classes (rep l m F))) r place (pattern (rep l m F) c) x z
-  repeat_walks n is h o e fi ps qs k k' =
+  repeat_walks h o e fi ps qs k k' =
       let P : Pattern = pattern F c in
       let all : ℕ = c + length (classes F) in
       let A : Pattern = copies l P in
       let B : Pattern = up_to (m - l) P in
       let D : ℕ = place.depth in
-      let la : (place.last && empty B) ≡ place.last = ap (λ b. place.last && b) (up_to_empty (m - l) P) ∙ and-true place.last in
-      let fa : first ≡ (place.first && empty A) = fi ∙ ap (λ b. place.first && (eqb l 0 || b)) e ∙ ap (λ b. place.first && b) (sym (copies_empty l P)) in
+      let la : (place.last && empty B) ≡ (place.last && true) = ap (λ b. place.last && b) (up_to_empty (m - l) P) in
+      let fa : (place.first && skips) ≡ (place.first && empty A) = ap (λ b. place.first && b) (fi ∙ ap (λ b. eqb l 0 || b) e ∙ sym (copies_empty l P)) in
       let core : Walks c (length (classes F)) r place (Pattern.seq A B) x z =
       (λ few.
       let K = k (ap (λ (s : Place). s.into) ps) few in
-      let L = subst (λ j. (r ≡ cond (eqb j 0) next all) × Writes q.into q.depth (stretch q.first q.last (up_to j P)) y z) is (k' few) in
+      let L = k' few in
       let v : Writes None D (stretch place.first (place.last && empty B) A) x y =
       subst (λ b. Writes None D (stretch place.first b A) x y) (sym la) (subst (λ s. Writes s.into s.depth (stretch s.first s.last A) x y) ps K.1) in
       let w : Writes place.into D (stretch (place.first && empty A) place.last B) y z =
@@ -369,9 +383,29 @@ module _ (c r next : ℕ) (place p q : Place) (first skipped : Bool) (x y z : Co
       subst (λ b. Walks c (length (cond b (cond (eqb m 0) [] (classes F)) (nothing ∷ []))) r place (cond b (Pattern.seq A B) (leaf c)) x z) (sym (le-leb l m h))
       (subst (λ b. Walks c (length (cond b [] (classes F))) r place (Pattern.seq A B) x z) (sym (ne_eqb m 0 o)) core)
 
-settled : (b : Bool) (v : ℕ) → cond b v v ≡ v
-settled true v = refl
-settled false v = refl
+-- no copy is left
+pub none_left : (c d : ℕ) (m : Option ℕ) (f l : Bool) (n : ℕ) (P : Pattern) (x : Code) → m ≡ None → n ≡ 0 → Writes m d (stretch f l (copies n P)) x x
+none_left c d m f l n P x is z =
+    subst (λ a. Writes m d (stretch f l (copies a P)) x x) (sym z)
+    (subst (λ a. Writes a d eps x x) (sym is) (λ deep room hk hs ha. record { written = sym (append-nil (steps_of x)); carries = omega arith; rows = omega arith; gathering = omega arith }))
+
+-- one copy, and the n that are left
+pub copy_writes : (n left : ℕ) (place p q : Place) (skipped skips : Bool) (P : Pattern) (x y z : Code) → suc n ≡ left → skipped ≡ empty P → skips ≡ (eqb n 0 || skipped) → place.into ≡ None
+    → p ≡ record { first = place.first; last = place.last && skips; into = None; depth = place.depth }
+    → q ≡ record { first = place.first && skipped; last = place.last; into = place.into; depth = place.depth }
+    → Writes p.into p.depth (stretch p.first p.last P) x y
+    → Writes q.into q.depth (stretch q.first q.last (copies n P)) y z
+    → Writes place.into place.depth (stretch place.first place.last (copies left P)) x z
+copy_writes n left place p q skipped skips P x y z one e sk is ps qs k k' =
+    let D : ℕ = place.depth in
+    let R : Pattern = copies n P in
+    let la : (place.last && skips) ≡ (place.last && empty R) = ap (λ b. place.last && b) (sk ∙ ap (λ b. eqb n 0 || b) e ∙ sym (copies_empty n P)) in
+    let v : Writes None D (stretch place.first (place.last && empty R) P) x y =
+    subst (λ b. Writes None D (stretch place.first b P) x y) la (subst (λ s. Writes s.into s.depth (stretch s.first s.last P) x y) ps k) in
+    let w : Writes place.into D (stretch (place.first && empty P) place.last R) y z =
+    subst (λ b. Writes place.into D (stretch b place.last R) y z) (ap (λ b. place.first && b) e) (subst (λ s. Writes s.into s.depth (stretch s.first s.last R) y z) qs k') in
+    subst (λ i. Writes place.into D (stretch place.first place.last (copies i P)) x z) one
+    (seq_writes place.into D (stretch place.first (place.last && empty R) P) (stretch (place.first && empty P) place.last R) x y z v w)
 
 -- one copy more, and those that are left
 module _ (c r old next left : ℕ) (place p q : Place) (skipped : Bool) (F : Form) (some : left ≡ 0 → ⊥) (e : skipped ≡ empty (pattern F c)) (few : c + length (classes F) ≤ top) where
@@ -390,31 +424,10 @@ module _ (c r old next left : ℕ) (place p q : Place) (skipped : Bool) (F : For
   numbered : next ≡ all → r ≡ cond (eqb n 0) next all → r ≡ cond (eqb left 0) old all
   numbered at is = is ∙ ap (λ v. cond (eqb n 0) v all) at ∙ settled (eqb n 0) all ∙ sym (ap (λ b. cond b old all) (ne_eqb left 0 some))
 
-  pub copy_walks : (last first : Bool) (x y z : Code) → last ≡ (place.last && (eqb n 0 || skipped)) → first ≡ (place.first && skipped) → place.into ≡ None
-      → p ≡ record { first = place.first; last = last; into = None; depth = place.depth }
-      → q ≡ record { first = first; last = place.last; into = place.into; depth = place.depth }
-      → Walks c (length (classes F)) next p P x y
-      → (q.into ≡ None → (r ≡ cond (eqb n 0) next all) × Writes q.into q.depth (stretch q.first q.last (copies n P)) y z)
-      → (r ≡ cond (eqb left 0) old all) × Writes place.into place.depth (stretch place.first place.last (copies left P)) x z
-  copy_walks last first x y z la fi is ps qs k k' =
-      let K = k few in
-      let L = k' (ap (λ (s : Place). s.into) qs ∙ is) in
-      let D : ℕ = place.depth in
-      let R : Pattern = copies n P in
-      let lb : last ≡ (place.last && empty R) = la ∙ ap (λ b. place.last && (eqb n 0 || b)) e ∙ ap (λ b. place.last && b) (sym (copies_empty n P)) in
-      let v : Writes None D (stretch place.first (place.last && empty R) P) x y =
-      subst (λ b. Writes None D (stretch place.first b P) x y) lb (subst (λ s. Writes s.into s.depth (stretch s.first s.last P) x y) ps K.1) in
-      let w : Writes place.into D (stretch (place.first && empty P) place.last R) y z =
-      subst (λ b. Writes place.into D (stretch b place.last R) y z) (fi ∙ ap (λ b. place.first && b) e) (subst (λ s. Writes s.into s.depth (stretch s.first s.last R) y z) qs L.1) in (
-        numbered K.0 L.0,
-        subst (λ i. Writes place.into D (stretch place.first place.last (copies i P)) x z) one_more
-            (seq_writes place.into D (stretch place.first (place.last && empty R) P) (stretch (place.first && empty P) place.last R) x y z v w),
-      )
-
-  -- the same of copies that may be left out, behind what gathers their marks
-  module _ (row : ℕ) (first : Bool) (y z u : Code) (fi : first ≡ (place.first && skipped))
-      (ps : p ≡ record { first = place.first; last = place.last; into = None; depth = place.depth })
-      (qs : q ≡ record { first = first; last = place.last; into = Some row; depth = place.depth })
+  -- copies that may be left out, behind what gathers their marks
+  module _ (row : ℕ) (y z u : Code)
+      (ps : p ≡ record { first = place.first; last = place.last && true; into = None; depth = place.depth })
+      (qs : q ≡ record { first = place.first && skipped; last = place.last; into = Some row; depth = place.depth })
       (k : Walks c (length (classes F)) next p P y z)
       (k' : (r ≡ cond (eqb n 0) next all) × Writes q.into q.depth (stretch q.first q.last (up_to n P)) z u) where
     abbrev body : Pattern
@@ -425,11 +438,11 @@ module _ (c r old next left : ℕ) (place p q : Place) (skipped : Bool) (F : For
         let K = k few in
         let D : ℕ = place.depth in
         let R : Pattern = up_to n P in
-        let la : (place.last && empty R) ≡ place.last = ap (λ b. place.last && b) (up_to_empty n P) ∙ and-true place.last in
+        let la : (place.last && empty R) ≡ (place.last && true) = ap (λ b. place.last && b) (up_to_empty n P) in
         let v : Writes None D (stretch place.first (place.last && empty R) P) y z =
         subst (λ b. Writes None D (stretch place.first b P) y z) (sym la) (subst (λ s. Writes s.into s.depth (stretch s.first s.last P) y z) ps K.1) in
         let w : Writes (Some row) D (stretch (place.first && empty P) place.last R) z u =
-        subst (λ b. Writes (Some row) D (stretch b place.last R) z u) (fi ∙ ap (λ b. place.first && b) e) (subst (λ s. Writes s.into s.depth (stretch s.first s.last R) z u) qs k'.1) in
+        subst (λ b. Writes (Some row) D (stretch b place.last R) z u) (ap (λ b. place.first && b) e) (subst (λ s. Writes s.into s.depth (stretch s.first s.last R) z u) qs k'.1) in
         seq_writes (Some row) D (stretch place.first (place.last && empty R) P) (stretch (place.first && empty P) place.last R) y z u v w
 
     pub option_into : (x : Code) → place.into ≡ Some row → Does x y (Or row ∷ []) 0 0 0

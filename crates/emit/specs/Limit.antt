@@ -1,6 +1,6 @@
 -- How long the program of the heaviest form is, at most. Assumes nothing.
 use Rattle.std.specs.Prelude.{ℕ, ◌*◌}
-use Rattle.classes.specs.Limit.{heaviest}
+use Rattle.limits.specs.Limits.{heaviest}
 
 abbrev pub longest : ℕ
 longest = 4 * heaviest

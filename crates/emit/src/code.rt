@@ -8,9 +8,9 @@ use program::Step;
 pub struct Code {
     steps: Vec<Step>,
     // the numbers that come next: of a carry, of a star's row, of a row in which a union gathers
-    carry: usize,
-    star: usize,
-    gather: usize,
+    pub(crate) carry: usize,
+    pub(crate) star: usize,
+    pub(crate) gather: usize,
     // room for the program of the heaviest form
     ghost wide: { longest ≤ vec_capacity steps },
 }

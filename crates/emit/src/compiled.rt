@@ -9,7 +9,7 @@ pub struct Compiled {
 }
 
 // What a form's program needs: how many classes, stars' rows and carries it has, and how many rows in all.
-#[derive(Clone, Copy, Debug)]
+#[derive(Clone, Copy, PartialEq, Eq, Debug)]
 pub struct Sizes {
     pub classes: usize,
     pub stars: usize,

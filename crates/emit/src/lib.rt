@@ -5,7 +5,6 @@
 mod code;
 mod compiled;
 mod place;
-mod rows;
 mod shape;
 
 pub use compiled::{Compiled, Sizes};
@@ -26,10 +25,14 @@ mod tests {
         let root = tree.push(Node::Star { part }).ok_or("room")?;
         let mut compiled = Compiled::new(rt.alloc())?;
         let sizes = compiled.compile(&tree, root);
+        let wanted = Sizes {
+            classes: 1,
+            stars: 0,
+            carries: 1,
+            rows: 19,
+        };
         assert_eq!(rt; compiled.program().len(), 1);
-        assert_eq!(rt; sizes.carries, 1);
-        assert_eq!(rt; sizes.stars, 0);
-        assert_eq!(rt; sizes.rows, 19);
+        assert_eq!(rt; sizes, wanted);
         Ok(())
     }
 
@@ -50,8 +53,13 @@ mod tests {
         let sizes = compiled.compile(&tree, root);
         assert_eq!(rt; compiled.program().len(), 6);
         assert_eq!(rt; compiled.sets().len(), 1);
-        assert_eq!(rt; sizes.carries, 3);
-        assert_eq!(rt; sizes.rows, 20);
+        let wanted = Sizes {
+            classes: 1,
+            stars: 0,
+            carries: 3,
+            rows: 20,
+        };
+        assert_eq!(rt; sizes, wanted);
         Ok(())
     }
 }

@@ -1,5 +1,5 @@
 // Where the steps of a form are written.
-ghost use Rattle.std.specs.Prelude.{◌≡◌, ◌+◌, ◌≤◌, true, false, Some, None};
+ghost use Rattle.std.specs.Prelude.{◌≡◌, ◌+◌, ◌≤◌, true, false, ◌&&◌, Some, None};
 ghost use Rattle.emit.specs.Coding.{top};
 
 #[derive(Clone, Copy)]
@@ -26,27 +26,31 @@ impl Place {
         }
     }
 
-    // Of what is followed by more.
-    pub(crate) fn ahead(self, last: bool) -> Place
-        ensures { result ≡ record { first = self.first; last = last; into = None; depth = self.depth } }
+    // Whether a leaf can follow itself.
+    pub(crate) fn stretched(self) -> bool
+        ensures { result ≡ (self.first && self.last) }
+    {
+        self.first && self.last
+    }
+
+    // Of what is followed by more, which may be empty or not.
+    pub(crate) fn ahead(self, empty: bool) -> Place
+        ensures { result ≡ record { first = self.first; last = self.last && empty; into = None; depth = self.depth } }
     {
         Place {
-            first: self.first,
-            last,
+            last: self.last && empty,
             into: None,
-            depth: self.depth,
+            ..self
         }
     }
 
-    // Of what follows.
-    pub(crate) fn behind(self, first: bool) -> Place
-        ensures { result ≡ record { first = first; last = self.last; into = self.into; depth = self.depth } }
+    // Of what follows something that may be empty or not.
+    pub(crate) fn behind(self, empty: bool) -> Place
+        ensures { result ≡ record { first = self.first && empty; last = self.last; into = self.into; depth = self.depth } }
     {
         Place {
-            first,
-            last: self.last,
-            into: self.into,
-            depth: self.depth,
+            first: self.first && empty,
+            ..self
         }
     }
 
@@ -55,10 +59,8 @@ impl Place {
         ensures { result ≡ record { first = self.first; last = self.last; into = Some row; depth = self.depth } }
     {
         Place {
-            first: self.first,
-            last: self.last,
             into: Some(row),
-            depth: self.depth,
+            ..self
         }
     }
 
@@ -68,10 +70,9 @@ impl Place {
         ensures depth { self.depth + 1 ≤ top → result.depth ≡ self.depth + 1 }
     {
         Place {
-            first: self.first,
-            last: self.last,
             into,
             depth: self.depth.saturating_add(1),
+            ..self
         }
     }
 
@@ -83,7 +84,7 @@ impl Place {
             first: true,
             last: true,
             into: None,
-            depth: self.depth,
+            ..self
         }
     }
 }

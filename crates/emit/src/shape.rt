@@ -1,4 +1,4 @@
-// What the pattern of a form is like, from the form's node.
+// What the pattern of a form is like, from the form's node, which is first found and then matched, as in the walk.
 ghost use Rattle.std.specs.Prelude.{◌≡◌, ℕ};
 ghost use Rattle.emit.specs.Walking.{is_leaf, is_nil};
 ghost use Rattle.form.specs.Form.{Form, Forms};
@@ -15,10 +15,7 @@ pub(crate) fn no_form(tree: &Tree, i: usize) -> bool
     let Some(node) = tree.node(i) else {
         return true;
     };
-    match node {
-        Node::Cons { head: _, tail: _ } => false,
-        _ => true,
-    }
+    !matches!(node, Node::Cons { .. })
 }
 
 // Whether the form surely matches the empty part, wherever it stands.
@@ -31,18 +28,19 @@ pub(crate) fn empty(tree: &Tree, i: usize) -> bool
     };
     match node {
         Node::Quote { from, to } => to.saturating_sub(from) == 0,
-        Node::Set { from: _, to: _ } | Node::Out { from: _, to: _ } => false,
+        Node::Set { .. } | Node::Out { .. } => false,
         Node::Seq { parts } => all_empty(tree, parts),
         Node::Or { parts } => any_empty(tree, parts),
-        Node::Star { part: _ } => true,
+        Node::Star { .. } => true,
         Node::Rep { least, most, part } => least <= most && (least == 0 || empty(tree, part)),
         Node::Start | Node::End => false,
         // a list is no form
-        Node::Nil | Node::Cons { head: _, tail: _ } => false,
+        Node::Nil | Node::Cons { .. } => false,
     }
 }
 
-// The same of forms in order.
+// The same of forms in order. It and `any_empty` are two, since a flag for which of them is meant would hide the `&&` and the
+// `||` that they come down to.
 #[cycle(all_empty_any_empty_empty)]
 pub(crate) fn all_empty(tree: &Tree, i: usize) -> bool
     ensures { (fs : Forms) (c : ℕ) → StandAll tree.now fs i → result ≡ empty_of (in_order_of fs c) }
@@ -80,17 +78,13 @@ pub(crate) fn single(tree: &Tree, i: usize) -> bool
     };
     match node {
         Node::Quote { from, to } => to.saturating_sub(from) == 1,
-        Node::Set { from: _, to: _ } | Node::Out { from: _, to: _ } => true,
+        Node::Set { .. } | Node::Out { .. } => true,
         Node::Seq { parts } => alone(tree, parts),
         Node::Or { parts } => no_form(tree, parts) || alone(tree, parts),
-        Node::Rep {
-            least,
-            most,
-            part: _,
-        } => least > most,
-        Node::Star { part: _ } | Node::Start | Node::End => false,
+        Node::Rep { least, most, .. } => least > most,
+        Node::Star { .. } | Node::Start | Node::End => false,
         // a list is no form
-        Node::Nil | Node::Cons { head: _, tail: _ } => false,
+        Node::Nil | Node::Cons { .. } => false,
     }
 }
 

@@ -1,4 +1,4 @@
-mod Counting
-mod Runs
-mod Listed
+mod Tape
+mod Reaching
+mod Between
 mod Pieces

@@ -1,14 +1,23 @@
 -- Blocks and pieces of one recording. Assumes nothing.
-use Rattle.std.proofs.Common.{◌≡◌, ℕ, zero, suc, ◌+◌, ◌-◌, ◌<◌, ◌≤◌, Bool, true, false, not, ◌&&◌, eqb, List, [], ◌∷◌, ◌++◌, length, get_or, take, drop, set, sym, refl, ap, ◌∙◌, subst, ap₂, arith, length-drop, length-take, get_or-drop, get_or-take, drop-drop, take-suc-set, drop-set-lt}
-use Rattle.std.proofs.lemmas.List.{get_or_past, append-nil}
+use Rattle.std.proofs.Common.{◌≡◌, ℕ, zero, suc, ◌+◌, ◌-◌, ◌<◌, ◌≤◌, Bool, true, false, not, ◌&&◌, eqb, List, [], ◌∷◌, ◌++◌, map, length, get_or, take, drop, set, sym, refl, ap, ◌∙◌, subst, ap₂, arith, length-drop, get_or-drop, drop-drop, take-suc-set, drop-set-lt}
+use Rattle.std.proofs.Math.Bool.{and-true}
+use Rattle.std.proofs.Math.ListN.{get_or-append}
+use Rattle.std.proofs.lemmas.Bool.{leb-true, le-leb}
+use Rattle.std.proofs.lemmas.List.{get_or_past, append-nil, length-append, length-map, drop_at, take_all}
+use Rattle.block.specs.Rows.{bit}
+use Rattle.form.specs.Running.{places_from}
 use Rattle.refusal.specs.declared.ends.End.{End}
-use Rattle.flash.specs.declared.lines.Line.{Line}
+use Rattle.marks.specs.declared.count.Lines.{Lines}
+use Rattle.marks.specs.Counting.{end_of, FeedsAt, BeginsAt, Counts}
+use Rattle.marks.specs.Listing.{ends_from, Lists}
+use Rattle.marks.proofs.Marked.{places_agree, places_few}
 use Rattle.flash.specs.declared.reader.Flashes.{Flashes}
 use Rattle.flash.specs.Flashes.{lit_byte, line_feed, lit, lit_before, complete, line_at, column_at, between, flashes}
-use Rattle.flash.specs.Lines.{FeedsAt, Counted}
+use Rattle.flash.specs.declared.runs.Marks.{Marks}
 use Rattle.flash.specs.Marks.{before as before_lit}
 use Rattle.flash.specs.Feeding.{Tells, Holds, Fed}
-use Rattle.flash.proofs.Listed.{between_joined, between_none, between_one}
+use Rattle.flash.proofs.Tape.{tape, to_tape, from_tape, between_places}
+use Rattle.flash.proofs.Between.{between_joined, between_none, between_one}
 
 -- ---- a block of bytes that stands in b at `base`
 
@@ -24,51 +33,59 @@ module _ (b bytes : List ℕ) (base : ℕ) (carry : Bool) (holds : Holds b base 
       → marks i ≡ complete b (base + i)
   complete_at marks is i l = is i l ∙ ap₂ (λ x y. x && not y) (before_at i (omega arith)) (lit_at i l)
 
-  pub feeds_at : (feeds : ℕ → Bool) → ((i : ℕ) → i < length bytes → feeds i ≡ eqb (get_or bytes i 0) line_feed) → FeedsAt b base (length bytes) feeds
+  pub feeds_at : (feeds : List Bool) → ((i : ℕ) → i < length bytes → bit feeds i ≡ eqb (get_or bytes i 0) line_feed) → FeedsAt (tape b) base (length bytes) feeds
   feeds_at feeds is i l = is i l ∙ ap (λ v. eqb v line_feed) (sym (holds i l))
 
 -- ---- a piece's blocks, one after the other
 
--- the bytes from `at` on, and before `at + n`, as the code cuts them
-abbrev pub part : ℕ → ℕ → List ℕ → List ℕ
-part at n piece = take (at + n - at) (drop at piece)
-
-pub part_length : (at n : ℕ) (piece : List ℕ) → at + n ≤ length piece → length (part at n piece) ≡ n
-part_length at n piece h = length-take (at + n - at) (drop at piece) ∙ omega (arith, length-drop at piece)
-
-part_holds : (b piece : List ℕ) (p at n : ℕ) → at + n ≤ length piece → Holds b p piece → Holds b (p + at) (part at n piece)
-part_holds b piece p at n h holds i l =
-    let u = part_length at n piece h in
+-- the bytes that come next, of those that are left
+part_holds : (b piece part later : List ℕ) (p at : ℕ) → at ≤ length piece → drop at piece ≡ part ++ later → Holds b p piece → Holds b (p + at) part
+part_holds b piece part later p at h split holds i l =
+    let long : length piece - at ≡ length part + length later = sym (length-drop at piece) ∙ ap length split ∙ length-append part later in
     let e : p + at + i ≡ p + (at + i) = omega arith in
-    ap (λ q. get_or b q 0) e ∙ holds (at + i) (omega arith) ∙ sym (get_or-take (at + n - at) (drop at piece) i 0 (omega arith) ∙ get_or-drop at piece i 0)
+    ap (λ q. get_or b q 0) e ∙ holds (at + i) (omega arith)
+    ∙ sym (sym (get_or-append part later 0 i l) ∙ sym (ap (λ s. get_or s i 0) split) ∙ get_or-drop at piece i 0)
 
--- after `at` bytes of the piece, from the reader `old` on
-pub record Going (old now : Flashes) (piece : List ℕ) (at : ℕ) (before after : List End) (count : ℕ) : Type 0 where
-  pub within : at ≤ length piece
-  pub moved : now.position ≡ old.position + at
-  pub few : count ≤ at
-  pub tells : (b : List ℕ) → Tells old b → Holds b old.position piece → Tells now b
-  pub ends : (b : List ℕ) → Tells old b → Holds b old.position piece → take count after ≡ between b old.position at
+-- with these bytes left of the piece, from the reader `old` on
+pub record Going (old now : Flashes) (piece left : List ℕ) (before after : List End) (count : ℕ) : Type 0 where
+  pub within : length left ≤ length piece
+  pub cut : left ≡ drop (length piece - length left) piece
+  pub moved : now.here.position + length left ≡ old.here.position + length piece
+  pub few : count + length left ≤ length piece
+  pub tells : (b : List ℕ) → Tells old b → Holds b old.here.position piece → Tells now b
+  pub ends : (b : List ℕ) → Tells old b → Holds b old.here.position piece → take count after ≡ between b old.here.position (length piece - length left)
   pub rest : drop count after ≡ drop count before
 
-pub set_out : (old : Flashes) (piece : List ℕ) (ends : List End) → Going old old piece 0 ends ends 0
+pub set_out : (old : Flashes) (piece : List ℕ) (ends : List End) → Going old old piece piece ends ends 0
 unfolding between
 set_out old piece ends =
-    record { within = omega arith; moved = omega arith; few = omega arith; tells = λ b t h. t; ends = λ b t h. refl; rest = refl }
-
-pub go_on : (old now next : Flashes) (piece : List ℕ) (at n : ℕ) (before after later : List End) (count more : ℕ) → at + n ≤ length piece
-    → Going old now piece at before after count → Fed now next (part at n piece) after later count more → Going old next piece (at + n) before later more
-go_on old now next piece at n before after later count more h G F =
-    let long = part_length at n piece h in
+    let none : length piece - length piece ≡ 0 = omega arith in
     record {
-      within = h;
-      moved = let m = F.moved in let k = G.moved in omega arith;
-      few = let f = F.few in let k = G.few in omega arith;
+      within = omega arith;
+      cut = sym (ap (λ n. drop n piece) none);
+      moved = refl;
+      few = omega arith;
+      tells = λ b t h. t;
+      ends = λ b t h. sym (ap (between b old.here.position) none);
+      rest = refl;
+    }
+
+pub go_on : (old now next : Flashes) (piece left part later : List ℕ) (before after then : List End) (count more : ℕ) → left ≡ part ++ later
+    → Going old now piece left before after count → Fed now next part after then count more → Going old next piece later before then more
+go_on old now next piece left part later before after then count more split G F =
+    record {
+      within = let w = G.within in let l = long in omega arith;
+      cut =
+          sym (drop_at part later (length part) refl) ∙ ap (drop (length part)) (sym split ∙ G.cut) ∙ drop-drop (length part) at piece
+          ∙ ap (λ n. drop n piece) forth;
+      moved = let m = F.moved in let k = G.moved in let l = long in omega arith;
+      few = let f = F.few in let k = G.few in let l = long in omega arith;
       tells = λ b t holds. F.tells b (G.tells b t holds) (stands b holds);
       ends = λ b t holds.
           F.ends b (G.tells b t holds) (stands b holds)
-          ∙ ap₂ (λ p k. take count after ++ between b p k) G.moved long
-          ∙ ap (λ l. l ++ between b (old.position + at) n) (G.ends b t holds) ∙ sym (between_joined b old.position at n);
+          ∙ ap (λ p. take count after ++ between b p (length part)) here
+          ∙ ap (λ l. l ++ between b (old.here.position + at) (length part)) (G.ends b t holds) ∙ sym (between_joined b old.here.position at (length part))
+          ∙ ap (between b old.here.position) forth;
       rest =
           let k = F.grown in
           let e : count + (more - count) ≡ more = omega arith in
@@ -76,77 +93,133 @@ go_on old now next piece at n before after later count more h G F =
           ∙ ap (λ m. drop m before) e;
     }
   where
-    stands : (b : List ℕ) → Holds b old.position piece → Holds b now.position (part at n piece)
-    stands b holds = subst (λ p. Holds b p (part at n piece)) (sym G.moved) (part_holds b piece old.position at n h holds)
+    at : ℕ
+    at = length piece - length left
+
+    long : length left ≡ length part + length later
+    long = ap length split ∙ length-append part later
+
+    forth : at + length part ≡ length piece - length later
+    forth = let w = G.within in let l = long in omega arith
+
+    here : now.here.position ≡ old.here.position + at
+    here = let m = G.moved in let w = G.within in omega arith
+
+    stands : (b : List ℕ) → Holds b old.here.position piece → Holds b now.here.position part
+    stands b holds = subst (λ p. Holds b p part) (sym here) (part_holds b piece part later old.here.position at (omega arith) (sym G.cut ∙ split) holds)
 
 -- the whole piece
-pub arrived : (old now : Flashes) (piece : List ℕ) (at : ℕ) (before after : List End) (count : ℕ) → length piece ≤ at → Going old now piece at before after count
+pub arrived : (old now : Flashes) (piece left : List ℕ) (before after : List End) (count : ℕ) → length left ≡ 0 → Going old now piece left before after count
     → Fed old now piece before after 0 count
-arrived old now piece at before after count h G =
-    let w = G.within in
-    let e : at ≡ length piece = omega arith in
+arrived old now piece left before after count none G =
+    let e : length piece - length left ≡ length piece = omega arith in
     record {
       moved = let m = G.moved in omega arith;
       grown = omega arith;
       few = let f = G.few in omega arith;
       tells = G.tells;
-      ends = λ b t holds. G.ends b t holds ∙ ap (between b old.position) e;
+      ends = λ b t holds. G.ends b t holds ∙ ap (between b old.here.position) e;
       rest = G.rest;
     }
 
 -- ---- one block, from its marks and its listing
 
-pub block_fed : (old new : Flashes) (bytes : List ℕ) (marks feeds : ℕ → Bool) (out : Bool) (line : Line) (before after : List End) (count n : ℕ)
-    → ((i : ℕ) → i < length bytes → marks i ≡ (before_lit old.lit bytes i && not (lit bytes i)))
-    → ((i : ℕ) → i < length bytes → feeds i ≡ eqb (get_or bytes i 0) line_feed)
-    → out ≡ before_lit old.lit bytes (length bytes)
-    → ((b : List ℕ) → FeedsAt b old.position (length bytes) feeds → Counted b (record { number = old.line; start = old.start }) old.position → Counted b line (old.position + length bytes))
-    → ((b : List ℕ) → FeedsAt b old.position (length bytes) feeds → Counted b (record { number = old.line; start = old.start }) old.position
-    → ((i : ℕ) → i < length bytes → marks i ≡ complete b (old.position + i)) → take n after ≡ take count before ++ between b old.position (length bytes))
-    → drop n after ≡ drop n before → count ≤ n → n ≤ count + length bytes
-    → new.lit ≡ out → new.position ≡ old.position + length bytes → new.line ≡ line.number → new.start ≡ line.start
-    → Fed old new bytes before after count n
-block_fed old new bytes marks feeds out line before after count n em ef eo lines ends rest grown few el ep en es =
-    record {
-      moved = ep;
-      grown = grown;
-      few = few;
-      tells = λ b t holds.
-          let k = lines b (feeds_at b bytes old.position old.lit holds t.lit feeds ef) (t.line, t.column) in
-          record {
-            lit = el ∙ eo ∙ before_at b bytes old.position old.lit holds t.lit (length bytes) (omega arith) ∙ ap (lit_before b) (sym ep);
-            line = en ∙ k.0 ∙ ap (line_at b) (sym ep);
-            column = ap₂ (λ s p. s + column_at b p) es ep ∙ k.1 ∙ sym ep;
-          };
-      ends = λ b t holds.
-          ends b (feeds_at b bytes old.position old.lit holds t.lit feeds ef) (t.line, t.column)
-          (complete_at b bytes old.position old.lit holds t.lit marks em);
-      rest = rest;
-    }
+module _ {B : Type 0} (row : B → List Bool) (old new : Flashes) (bytes : List ℕ) (m : Marks B) (first last : Lines B) (before after : List End) (count n : ℕ)
+    (is : (i : ℕ) → i < length bytes → bit (row m.complete) i ≡ (before_lit old.lit bytes i && not (lit bytes i)))
+    (feeds : (i : ℕ) → i < length bytes → bit (row m.feeds) i ≡ eqb (get_or bytes i 0) line_feed)
+    (begun : BeginsAt row m.feeds old.here first) where
+  module _ (b : List ℕ) where
+    abbrev listing : List End
+    listing = ends_from (tape b) (row m.complete) first.base (length bytes) first.at
+
+    -- as marked places of the recording
+    listing_is : listing ≡ map end_of (places_from (tape b) (λ q. bit (row m.complete) (q - old.here.position)) old.here.position (length bytes))
+    listing_is =
+        let e : old.here.position + 0 ≡ old.here.position = omega arith in
+        let f : length bytes - 0 ≡ length bytes = omega arith in
+        (λ i. ends_from (tape b) (row m.complete) (begun.base i) (length bytes) (begun.at i))
+        ∙ λ i. map end_of (places_from (tape b) (λ q. bit (row m.complete) (q - old.here.position)) (e i) (f i))
+
+    listing_few : length listing ≤ length bytes
+    listing_few =
+        let e : length listing ≡ length (places_from (tape b) (λ q. bit (row m.complete) (q - old.here.position)) old.here.position (length bytes)) =
+        ap length listing_is ∙ length-map (places_from (tape b) (λ q. bit (row m.complete) (q - old.here.position)) old.here.position (length bytes)) end_of in
+        let l = places_few (tape b) (λ q. bit (row m.complete) (q - old.here.position)) old.here.position (length bytes) in
+        omega arith
+
+    listing_ends : Holds b old.here.position bytes → old.lit ≡ lit_before b old.here.position → listing ≡ between b old.here.position (length bytes)
+    listing_ends holds led =
+        listing_is
+        ∙ ap (map end_of)
+        (places_agree (tape b) (tape b) (λ q. bit (row m.complete) (q - old.here.position)) (complete b) old.here.position (length bytes) (λ i h. refl)
+        (λ q h l.
+        let e : old.here.position + (q - old.here.position) ≡ q = omega arith in
+        complete_at b bytes old.here.position old.lit holds led (bit (row m.complete)) is (q - old.here.position) (omega arith) ∙ ap (complete b) e))
+        ∙ sym (between_places b old.here.position (length bytes))
+
+    started : Tells old b → Holds b old.here.position bytes → Counts row (length bytes) (tape b) first
+    started t holds =
+        begun.counts (length bytes) (tape b) (feeds_at b bytes old.here.position old.lit holds t.lit (row m.feeds) feeds)
+        (to_tape b old.here.line old.here.position t.line t.column)
+
+  -- a table with room for an end at each byte takes all of them
+  pub no_refusal : count + length bytes ≤ length before → (k : ℕ) → Lists row (length bytes) m.complete first last before after count k false → ⊥
+  no_refusal room k L =
+      let f = listing_few [] in
+      let e : false ≡ true = L.fitted (tape []) ∙ le-leb (length (listing [])) (length before - count) (omega arith) in
+      cc
+
+  pub block_fed : Lists row (length bytes) m.complete first last before after count n true → m.lit ≡ before_lit old.lit bytes (length bytes)
+      → new.lit ≡ m.lit → new.here.position ≡ last.base + last.at → new.here.line ≡ last.line
+      → Fed old new bytes before after count n
+  block_fed L out el ep en =
+      record {
+        moved = moved;
+        grown = let r = L.reached (tape []) in omega arith;
+        few = let r = L.reached (tape []) in let f = listing_few [] in omega arith;
+        tells = λ b t holds.
+            let C = L.counts (tape b) (started b t holds) in
+            let k = from_tape b last.line (last.base + last.at) (record { line = C.line; start = C.start }) in
+            record {
+              lit = el ∙ out ∙ before_at b bytes old.here.position old.lit holds t.lit (length bytes) (omega arith) ∙ ap (lit_before b) (sym moved);
+              line = ap (λ l. l.number) en ∙ k.0 ∙ ap (line_at b) (sym ep);
+              column = ap₂ (λ s p. s + column_at b p) (ap (λ l. l.start) en) ep ∙ k.1 ∙ sym ep;
+            };
+        ends = λ b t holds.
+            L.listed (tape b) (started b t holds)
+            ∙ ap (λ l. take count before ++ l) (take_all (n - count) (listing b) (all b) ∙ listing_ends b holds t.lit);
+        rest = L.rest;
+      }
+    where
+      moved : new.here.position ≡ old.here.position + length bytes
+      moved = let a = L.passed refl (let z = begun.at in omega arith) in let e = L.base in let f = begun.base in omega arith
+
+      -- all of them fitted
+      all : (b : List ℕ) → length (listing b) ≤ n - count
+      all b =
+          let f = leb-true (length (listing b)) (length before - count) (sym (L.fitted (tape b))) in
+          let r = L.reached (tape b) in
+          omega arith
 
 -- ---- the recording's end
 
 dark : (b : List ℕ) → not (lit b (length b)) ≡ true
 dark b = ap (λ v. not (eqb v lit_byte)) (get_or_past b (length b) 0 (omega arith))
 
-and_true : (x : Bool) → (x && true) ≡ x
-and_true true = refl
-and_true false = refl
-
 complete_end : (b : List ℕ) → complete b (length b) ≡ lit_before b (length b)
-complete_end b = ap (λ x. lit_before b (length b) && x) (dark b) ∙ and_true (lit_before b (length b))
+complete_end b = ap (λ x. lit_before b (length b) && x) (dark b) ∙ and-true (lit_before b (length b))
 
-module _ (s : Flashes) (b : List ℕ) (t : Tells s b) (all : s.position ≡ length b) where
+module _ (s : Flashes) (b : List ℕ) (t : Tells s b) (all : s.here.position ≡ length b) where
   was : s.lit ≡ complete b (length b)
   was = t.lit ∙ ap (lit_before b) all ∙ sym (complete_end b)
 
   pub close_none : s.lit ≡ false → [] ≡ between b (length b) 1
   close_none e = sym (between_none b (length b) 1 (λ i l. let q : length b ≡ length b + i = omega arith in ap (complete b) (sym q) ∙ sym was ∙ e))
 
-  pub close_some : s.lit ≡ true → record { line = s.line; column = s.position - s.start; position = s.position } ∷ [] ≡ between b (length b) 1
+  pub close_some : s.lit ≡ true → record { line = s.here.line.number; column = s.here.position - s.here.line.start; position = s.here.position } ∷ [] ≡ between b (length b) 1
   close_some e =
-      let c : s.position - s.start ≡ column_at b (length b) = let k = t.column ∙ all in let j = ap (column_at b) all in omega (arith, k, j) in
-      let l : s.line ≡ line_at b (length b) = t.line ∙ ap (line_at b) all in
+      let c : s.here.position - s.here.line.start ≡ column_at b (length b) = let k = t.column ∙ all in let j = ap (column_at b) all in omega (arith, k, j) in
+      let l : s.here.line.number ≡ line_at b (length b) = t.line ∙ ap (line_at b) all in
       (λ z. record { line = l z; column = c z; position = all z } ∷ []) ∙ sym (between_one b (length b) (sym was ∙ e))
 
 -- ---- the whole recording
@@ -154,14 +227,14 @@ module _ (s : Flashes) (b : List ℕ) (t : Tells s b) (all : s.position ≡ leng
 whole : (b : List ℕ) → Holds b 0 b
 whole b i l = let e : 0 + i ≡ i = omega arith in ap (λ q. get_or b q 0) e
 
-module _ (old new : Flashes) (b : List ℕ) (before after : List End) (n : ℕ) (zero-start : old.position ≡ 0) (any : (b : List ℕ) → Tells old b) (F : Fed old new b before after 0 n) where
-  stands : Holds b old.position b
+module _ (old new : Flashes) (b : List ℕ) (before after : List End) (n : ℕ) (zero-start : old.here.position ≡ 0) (any : (b : List ℕ) → Tells old b) (F : Fed old new b before after 0 n) where
+  stands : Holds b old.here.position b
   stands = subst (λ p. Holds b p b) (sym zero-start) (whole b)
 
   pub told : Tells new b
   told = F.tells b (any b) stands
 
-  pub at_end : new.position ≡ length b
+  pub at_end : new.here.position ≡ length b
   at_end = let m = F.moved in omega arith
 
   so_far : take n after ≡ between b 0 (length b)

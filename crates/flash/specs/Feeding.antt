@@ -8,9 +8,9 @@ use Rattle.flash.specs.Flashes.{lit_before, line_at, column_at, between, longest
 
 -- the reader has read the bytes of b before its position
 pub record Tells (s : Flashes) (b : List ℕ) : Type 0 where
-  pub lit : s.lit ≡ lit_before b s.position
-  pub line : s.line ≡ line_at b s.position
-  pub column : s.start + column_at b s.position ≡ s.position
+  pub lit : s.lit ≡ lit_before b s.here.position
+  pub line : s.here.line.number ≡ line_at b s.here.position
+  pub column : s.here.line.start + column_at b s.here.position ≡ s.here.position
 
 -- the piece is what b holds from position p on
 abbrev pub Holds : List ℕ → ℕ → List ℕ → Type 0
@@ -19,11 +19,11 @@ Holds b p piece = (i : ℕ) → i < length piece → slice_index b (p + i) ≡ s
 -- Whatever the recording b: if the reader was at a position of it, and was fed what stands there, then it has moved behind
 -- that, and the table has the ends between, behind the first `count` that it had.
 pub record Fed (old new : Flashes) (piece : List ℕ) (before after : List End) (count n : ℕ) : Type 0 where
-  pub moved : new.position ≡ old.position + length piece
+  pub moved : new.here.position ≡ old.here.position + length piece
   pub grown : count ≤ n
   pub few : n ≤ count + length piece
-  pub tells : (b : List ℕ) → Tells old b → Holds b old.position piece → Tells new b
-  pub ends : (b : List ℕ) → Tells old b → Holds b old.position piece → take n after ≡ take count before ++ between b old.position (length piece)
+  pub tells : (b : List ℕ) → Tells old b → Holds b old.here.position piece → Tells new b
+  pub ends : (b : List ℕ) → Tells old b → Holds b old.here.position piece → take n after ≡ take count before ++ between b old.here.position (length piece)
   pub rest : drop n after ≡ drop n before
 
 -- why bytes are refused: too few blocks, too many bytes in all, then fewer places for ends than bytes and `spare` more
@@ -38,16 +38,16 @@ Agrees blocks position bytes spare room (Ok _) = (8 ≤ blocks) × (position + b
 Agrees blocks position bytes spare room (Err e) = Declines blocks position bytes spare room e
 
 -- what one block answers and leaves; nothing is refused there
-abbrev pub ReadsBlock : Flashes → List ℕ → List End → List End → ℕ → Result (Flashes × ℕ) Refusal → Type 0
-ReadsBlock old bytes before after count (Ok r) = Fed old r.0 bytes before after count r.1
-ReadsBlock old bytes before after count (Err e) = ⊥
+abbrev pub ReadsBlock : Flashes → Flashes → List ℕ → List End → List End → ℕ → Result ℕ Refusal → Type 0
+ReadsBlock old new bytes before after count (Ok n) = Fed old new bytes before after count n
+ReadsBlock old new bytes before after count (Err e) = ⊥
 
 -- what `feed` answers and leaves: the reader, the table of ends and, where it refuses, the blocks
 abbrev pub Feeds : {B : Type 0} → Flashes → Flashes → List ℕ → List B → List B → List End → List End → Result ℕ Refusal → Type 0
 Feeds old new piece blocks working before after (Ok n) =
-    (8 ≤ length blocks) × (old.position + length piece ≤ longest) × (length piece + 0 ≤ length before) × Fed old new piece before after 0 n
+    (8 ≤ length blocks) × (old.here.position + length piece ≤ longest) × (length piece + 0 ≤ length before) × Fed old new piece before after 0 n
 Feeds old new piece blocks working before after (Err e) =
-    Declines (length blocks) old.position (length piece) 0 (length before) e × (new ≡ old) × (working ≡ blocks) × (after ≡ before)
+    Declines (length blocks) old.here.position (length piece) 0 (length before) e × (new ≡ old) × (working ≡ blocks) × (after ≡ before)
 
 -- what `list_flashes` answers and leaves: all ends of the recording
 abbrev pub Lists : {B : Type 0} → List ℕ → List B → List B → List End → List End → Result ℕ Refusal → Type 0

@@ -1,5 +1,6 @@
 -- The flashes of a recording: where each run of lit samples is complete. Assumes nothing.
 use Rattle.std.specs.Prelude.{ℕ, zero, suc, ◌+◌, Bool, false, cond, not, ◌&&◌, List, [], ◌∷◌, length, ◌==◌, slice_index}
+use Rattle.limits.specs.Limits.{longest_recording}
 use Rattle.refusal.specs.declared.ends.End.{End}
 
 -- the byte of a lit sample, and the one that closes a turn
@@ -11,7 +12,7 @@ line_feed = 10
 
 -- the most bytes that a recording has
 abbrev pub longest : ℕ
-longest = 1000000000
+longest = longest_recording
 
 -- whether the sample at position p is lit; behind the recording none is
 abbrev pub lit : List ℕ → ℕ → Bool

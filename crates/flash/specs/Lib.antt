@@ -1,4 +1,3 @@
 pub mod Flashes
-pub mod Lines
 pub mod Marks
 pub mod Feeding

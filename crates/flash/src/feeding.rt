@@ -1,107 +1,36 @@
 // A recording read piece by piece, or whole.
-ghost use Rattle.std.specs.Prelude.{◌≡◌, ℕ, ◌+◌, ◌<◌, ◌≤◌, ◌⊎◌, List, length};
+ghost use Rattle.std.specs.Prelude.{◌≡◌, ℕ, ◌+◌, ◌<◌, ◌≤◌, List, length};
 ghost use Rattle.std.specs.Option.{option_to_list};
-ghost use Rattle.block.specs.Calls.{answered};
 ghost use Rattle.flash.specs.Flashes.{longest, between};
+ghost use Rattle.flash.specs.Marks.{Fills};
 ghost use Rattle.flash.specs.Feeding.{Tells, Agrees, ReadsBlock, Feeds, Lists};
 
-use crate::lines::Line;
-use crate::listing::list_block;
-use crate::marks::mark_block;
+use crate::LONGEST;
 use crate::reader::Flashes;
-use block::Block;
+use crate::runs::mark_block;
+use block::{Block, WIDEST};
+use marks::{Lines, Spot, list_to};
 use refusal::{End, Refusal};
 use stream::BASIS;
 
-// A recording has at most this many bytes.
-pub const LONGEST: usize = 1_000_000_000;
-
-// The most bytes of a block that is wider than can be asked about: the place behind them must still be seen.
-const SEEN: usize = 65_527;
-
-// How many bytes go into one block: as many as it has places, where all of them can be asked about.
+// How many bytes go into one block: as many as it has places, but so few that the place behind them can still be asked about
+// where the block has more.
 fn step<B: Block>() -> usize
     ensures some { 0 < result }
-    ensures seen { result ≤ answered B.places }
-    ensures whole { (result < answered B.places) ⊎ (result ≡ B.places) }
+    ensures fills { (n : ℕ) → n ≤ result → Fills B.places n }
 {
-    B::width().min(SEEN)
-}
-
-// Whether bytes can be taken: blocks for the basis, a recording within its limit, a place for the end at each byte and
-// `spare` more.
-fn agree(
-    blocks: usize,
-    position: usize,
-    bytes: usize,
-    spare: usize,
-    room: usize,
-) -> Result<(), Refusal>
-    requires within { position ≤ longest }
-    requires spare { spare ≤ 1 }
-    ensures { Agrees blocks position bytes spare room result }
-{
-    if blocks < BASIS {
-        return Err(Refusal::TooFewBlocks);
-    }
-    if bytes > LONGEST - position {
-        return Err(Refusal::RecordingTooLong);
-    }
-    if room < bytes + spare {
-        return Err(Refusal::TableTooShort);
-    }
-    Ok(())
-}
-
-// One block more; its ends go into the table from `count` on.
-fn read_block<B: Block>(
-    reader: Flashes,
-    bytes: &[u8],
-    table: &mut [B],
-    ends: &mut [End],
-    count: usize,
-) -> Result<(Flashes, usize), Refusal>
-    requires eight { 8 ≤ length table.old }
-    requires seen { length bytes.now ≤ answered B.places }
-    requires whole { (length bytes.now < answered B.places) ⊎ (length bytes.now ≡ B.places) }
-    requires far { reader.position + length bytes.now ≤ longest }
-    requires room { count + length bytes.now ≤ length ends.old }
-    ensures { ReadsBlock reader bytes.now ends.old ends.new count result }
-{
-    let marks = mark_block(reader.lit, bytes, table)?;
-    let line = Line {
-        number: reader.line,
-        start: reader.start,
-    };
-    let (line, count) = list_block(
-        marks.complete,
-        marks.feeds,
-        bytes.len(),
-        reader.position,
-        line,
-        ends,
-        count,
-    );
-    let next = Flashes {
-        lit: marks.lit,
-        position: reader.position + bytes.len(),
-        line: line.number,
-        start: line.start,
-    };
-    Ok((next, count))
+    B::width().min(WIDEST - 1)
 }
 
 impl Flashes {
     // At the start of a recording, whatever it holds.
     pub fn new() -> Flashes
-        ensures start { result.position ≡ 0 }
+        ensures start { result.here.position ≡ 0 }
         ensures tells { (b : List ℕ) → Tells result b }
     {
         Flashes {
             lit: false,
-            position: 0,
-            line: 1,
-            start: 0,
+            here: Spot::first(),
         }
     }
 
@@ -116,34 +45,67 @@ impl Flashes {
     ) -> Result<usize, Refusal>
         ensures { Feeds self.old self.new piece.now table.old table.new ends.old ends.new result }
     {
-        agree(table.len(), self.position, piece.len(), 0, ends.len())?;
-        let step = step::<B>();
-        let mut reader = *self;
+        self.agree(piece, table, ends, 0)?;
         let mut count = 0;
-        let mut at = 0;
-        while at < piece.len() {
-            let n = step.min(piece.len() - at);
-            let (next, more) = read_block(reader, &piece[at..at + n], table, ends, count)?;
-            reader = next;
-            count = more;
-            at += n;
+        for bytes in piece.chunks(step::<B>()) {
+            count = self.read_block(bytes, table, ends, count)?;
         }
-        *self = reader;
         Ok(count)
     }
 
     // The end of a run that is still lit where the recording ends.
     pub fn close(self) -> Option<End>
-        ensures { (b : List ℕ) → Tells self b → self.position ≡ length b → option_to_list result ≡ between b (length b) 1 }
+        ensures { (b : List ℕ) → Tells self b → self.here.position ≡ length b → option_to_list result ≡ between b (length b) 1 }
     {
-        if !self.lit {
-            return None;
+        self.lit.then_some(self.here.end())
+    }
+
+    // Whether bytes can be taken: blocks for the basis, a recording within its limit, a place for the end at each byte and
+    // `spare` more.
+    fn agree<B: Block>(
+        self,
+        bytes: &[u8],
+        table: &[B],
+        ends: &[End],
+        spare: usize,
+    ) -> Result<(), Refusal>
+        requires { spare ≤ 1 }
+        ensures { Agrees (length table.now) self.here.position (length bytes.now) spare (length ends.now) result }
+    {
+        if table.len() < BASIS {
+            return Err(Refusal::TooFewBlocks);
         }
-        Some(End {
-            line: self.line,
-            column: self.position - self.start,
-            position: self.position,
-        })
+        if bytes.len() > LONGEST - self.here.position {
+            return Err(Refusal::RecordingTooLong);
+        }
+        if ends.len() < bytes.len() + spare {
+            return Err(Refusal::TableTooShort);
+        }
+        Ok(())
+    }
+
+    // One block more; its ends go into the table from `count` on. Answers the count then reached.
+    fn read_block<B: Block>(
+        &mut self,
+        bytes: &[u8],
+        table: &mut [B],
+        ends: &mut [End],
+        count: usize,
+    ) -> Result<usize, Refusal>
+        requires eight { 8 ≤ length table.old }
+        requires fills { Fills B.places (length bytes.now) }
+        requires far { self.old.here.position + length bytes.now ≤ longest }
+        requires room { count + length bytes.now ≤ length ends.old }
+        ensures { ReadsBlock self.old self.new bytes.now ends.old ends.new count result }
+    {
+        let marks = mark_block(self.lit, bytes, table)?;
+        let mut lines = Lines::at(marks.feeds, self.here)?;
+        let count = list_to(marks.complete, &mut lines, bytes.len(), ends, count)?;
+        *self = Flashes {
+            lit: marks.lit,
+            here: lines.here(),
+        };
+        Ok(count)
     }
 }
 
@@ -156,8 +118,8 @@ pub fn list_flashes<B: Block>(
 ) -> Result<usize, Refusal>
     ensures { Lists recording.now table.old table.new ends.old ends.new result }
 {
-    agree(table.len(), 0, recording.len(), 1, ends.len())?;
     let mut reader = Flashes::new();
+    reader.agree(recording, table, ends, 1)?;
     let n = reader.feed(recording, table, ends)?;
     let Some(last) = reader.close() else {
         return Ok(n);

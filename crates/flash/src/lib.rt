@@ -3,11 +3,10 @@
 #![tactic(auto)]
 
 mod feeding;
-mod lines;
-mod listing;
-mod marks;
 mod reader;
+mod runs;
 
-pub use feeding::{LONGEST, list_flashes};
-pub use marks::{LINE_FEED, LIT};
+pub use feeding::list_flashes;
+pub use limits::{LINE_FEED, LONGEST_RECORDING as LONGEST};
 pub use reader::Flashes;
+pub use runs::LIT;

@@ -16,7 +16,7 @@ use word::Word;
 // How many bytes are read at a time.
 const PIECE: usize = 65_536;
 
-// More bytes than any printed line has.
+// More bytes than any printed line has. The reader allocates nothing, so each line is printed into a buffer of this length.
 const LINE: usize = 64;
 
 fn main(rt: HostRuntime) -> anyhow::Result<()> {
@@ -26,23 +26,10 @@ fn main(rt: HostRuntime) -> anyhow::Result<()> {
 // The whole program, on any kind of block. Memory stays the same however long the recording is.
 fn run<B: Block>(rt: &HostRuntime) -> anyhow::Result<()> {
     let heap = rt.alloc();
-    let mut piece = vec![in heap; 0u8; PIECE]?;
-    let mut table = Vec::new(heap);
-    for _ in 0..BASIS {
-        table.push(B::none())?;
-    }
-    let nowhere = End {
-        line: 0,
-        column: 0,
-        position: 0,
-    };
-    let mut ends = vec![in heap; nowhere; PIECE]?;
-    list(
-        rt,
-        piece.as_mut_slice(),
-        table.as_mut_slice(),
-        ends.as_mut_slice(),
-    )
+    let mut piece = vec![in heap; 0; PIECE]?;
+    let mut table = vec![in heap; B::none(); BASIS]?;
+    let mut ends = vec![in heap; End::default(); PIECE]?;
+    list(rt, &mut piece, &mut table, &mut ends)
 }
 
 // Reads, searches and prints piece after piece, and then a run that is still lit.
@@ -55,6 +42,7 @@ fn list<B: Block>(
     let mut text = Vec::new(rt.alloc());
     let mut reader = Flashes::new();
     let mut left = LONGEST;
+    // Every loop is proved to end: no input has as many pieces as this.
     for _ in 0..u64::MAX {
         let n = read_some(rt, piece, left)?;
         if n == 0 {
@@ -89,7 +77,7 @@ fn print_all(rt: &HostRuntime, text: &mut Vec<u8>, ends: &[End]) -> anyhow::Resu
     for end in ends {
         add_line(text, *end)?;
     }
-    rt.write_all(text.as_slice())?;
+    rt.write_all(text)?;
     Ok(())
 }
 

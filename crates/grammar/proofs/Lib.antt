@@ -1,4 +1,3 @@
-pub mod Short
 pub mod Wants
 pub mod Runs
 pub mod Past

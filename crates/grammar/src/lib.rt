@@ -12,7 +12,7 @@ ghost use Rattle.tree.specs.Stands.{item as item_in};
 use tree::node::Range;
 
 // The word behind an opening bracket.
-#[derive(Clone, Copy)]
+#[derive(Clone, Copy, Debug, PartialEq, Eq)]
 pub enum Head {
     Set,
     Out,
@@ -53,13 +53,7 @@ fn hex(b: u8) -> Option<u8>
 fn pair(a: u8, b: u8) -> Option<u8>
     ensures { MatchOption result ((is_hex a && is_hex b) ≡ false) (λ d. ((is_hex a && is_hex b) ≡ true) × (d ≡ byte_of a b)) }
 {
-    let Some(high) = hex(a) else {
-        return None;
-    };
-    let Some(low) = hex(b) else {
-        return None;
-    };
-    Some(high * 16 + low)
+    Some(hex(a)? * 16 + hex(b)?)
 }
 
 // The item that a word spells.
@@ -68,18 +62,12 @@ pub fn spelt(w: &[u8]) -> Option<Range>
 {
     match w {
         [a, b] => {
-            let Some(low) = pair(*a, *b) else {
-                return None;
-            };
+            let low = pair(*a, *b)?;
             Some(Range { low, high: low })
         }
         [a, b, b'-', c, d] => {
-            let Some(low) = pair(*a, *b) else {
-                return None;
-            };
-            let Some(high) = pair(*c, *d) else {
-                return None;
-            };
+            let low = pair(*a, *b)?;
+            let high = pair(*c, *d)?;
             Some(Range { low, high })
         }
         _ => None,
@@ -101,25 +89,13 @@ pub fn number(w: &[u8]) -> Option<u16>
 {
     match w {
         [a] => digit(*a),
-        [a, b] => {
-            let (Some(tens), Some(ones)) = (digit(*a), digit(*b)) else {
-                return None;
-            };
-            Some(tens * 10 + ones)
-        }
-        [a, b, c] => {
-            let (Some(hundreds), Some(tens), Some(ones)) = (digit(*a), digit(*b), digit(*c)) else {
-                return None;
-            };
-            Some(hundreds * 100 + tens * 10 + ones)
-        }
+        [a, b] => Some(digit(*a)? * 10 + digit(*b)?),
+        [a, b, c] => Some(digit(*a)? * 100 + digit(*b)? * 10 + digit(*c)?),
         _ => None,
     }
 }
 
 // A bracket of seek with no form in it is refused at its closing bracket.
-pub fn seek_alone_is_refused() -> u8
+pub fn seek_alone_is_refused()
     ensures { SeekAlone }
-{
-    0
-}
+{}

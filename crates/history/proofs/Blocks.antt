@@ -47,18 +47,18 @@ matched_blocks w bytes =
     ap (λ n. n % w) (length-matched w bytes ∙ filled_blocks w (length bytes)) ∙ mul-mod_right w (length bytes / w)
 
 -- full blocks, and behind them less than a block
+pub behind_blocks : (w : ℕ) (m g : List ℕ) → length m % w ≡ 0 → length g < w → length (m ++ g) % w ≡ length g
+behind_blocks w m g z l =
+    ap (λ n. n % w) (length-append m g) ∙ sym (mod-add-mod (length m) w (length g)) ∙ ap (λ n. (n + length g) % w) z
+    ∙ ap (λ n. n % w) (zero-add (length g)) ∙ mod-eq_of_lt l
+
 pub matched_step :
     (w : ℕ) (bytes m g : List ℕ) → bytes ≡ m ++ g → length m % w ≡ 0 → length g < w → matched w Open bytes ≡ m
 matched_step w bytes m g e z l =
     subst (λ x. matched w Open x ≡ m) (sym e) (subst (λ k. take k (m ++ g) ≡ m) (sym here) (take-append_seam m g))
   where
-    over : length (m ++ g) % w ≡ length g
-    over =
-        ap (λ n. n % w) (length-append m g) ∙ sym (mod-add-mod (length m) w (length g)) ∙ ap (λ n. (n + length g) % w) z
-        ∙ ap (λ n. n % w) (zero-add (length g)) ∙ mod-eq_of_lt l
-
     here : filled w (length (m ++ g)) ≡ length m
-    here = let a = over in let b = length-append m g in omega arith
+    here = let a = behind_blocks w m g z l in let b = length-append m g in omega arith
 
 -- full blocks alone
 pub matched_full : (w : ℕ) (bytes : List ℕ) → length bytes % w ≡ 0 → matched w Open bytes ≡ bytes

@@ -1,5 +1,7 @@
 -- The law follows from right answers. Assumes nothing.
 use Rattle.std.proofs.Common.{◌≡◌, ℕ, ◌+◌, ◌<◌, ◌≤◌, Bool, true, false, ◌⊎◌, List, [], ◌∷◌, ◌++◌, length, take, Some, None, Option, sym, refl, ap, ◌∙◌, subst, inl, inr, ⊎_elim, append_assoc, append-nil, mod-lt, arith}
+use Rattle.std.proofs.lemmas.Bool.{false≢true}
+use Rattle.std.proofs.lemmas.Option.{none-some}
 use Rattle.form.specs.Form as form
 use Rattle.form.specs.Form.{Form}
 use Rattle.form.specs.Lines.{Place, IsEnd, Has, Ends}
@@ -11,9 +13,9 @@ use Rattle.refusal.specs.declared.Refusal.TheVariants.{EndsWaiting}
 use Rattle.history.specs.Calls.{Asked, load, rewind, feed, draw, close, taken, weight, waiting, Told, refused, done, took, found, none, count, shown, History, State, Empty, Open, Closed, state_of, text_of, taken_of, drawn_of, dry_after, dry}
 use Rattle.compiler.specs.Faults.{Reads}
 use Rattle.history.specs.Law.{First, Law}
-use Rattle.history.specs.Rules.{matched, Stands, check, some, rewind_refusal, feed_refusal, close_refusal, By, Loads, Feeds, next, Right, LawFollows}
+use Rattle.history.specs.Rules.{matched, Stands, check, behind, some, rewind_refusal, feed_refusal, close_refusal, By, Loads, Feeds, next, Right, LawFollows}
 use Rattle.history.proofs.Blocks.{partial, matched_partial, length-matched}
-use Rattle.history.proofs.Standing.{on, open_loaded, closed_loaded, stands_form, stands_empty, begun, after_refused, after_taken, after_weight, after_waiting, after_none, after_draw, after_load, after_rewind, after_feed, after_close, fed_ends, closed_off}
+use Rattle.history.proofs.Standing.{on, open_loaded, closed_loaded, stands_form, stands_empty, begun, still, unmoved_refused, after_taken, after_weight, after_waiting, after_none, after_draw, after_load, after_rewind, after_feed, after_close, fed_ends, closed_off}
 
 -- the law, of what stands after h
 module _ (w : ℕ) (h : History) (F : Form) (ws : List Place) (s : Stands w h F ws) where
@@ -71,13 +73,10 @@ pub record Settled (w : ℕ) (h : History) : Type 0 where
   pub stands : Stands w h form waits
   pub none_waits : dry h ≡ true → waits ≡ []
 
-never : {A : Type 0} → false ≡ true → A
-never e = let z : ◌≡◌ {A = ℕ} 0 1 = cc in absurd (omega arith)
-
 settled : {w : ℕ} {h : History} {F : Form} {ws : List Place} → dry h ≡ false → Stands w h F ws → Settled w h
-settled {F = F} {ws = ws} d s = record { form = F; waits = ws; stands = s; none_waits = λ e. never (sym d ∙ e) }
+settled {F = F} {ws = ws} d s = record { form = F; waits = ws; stands = s; none_waits = λ e. absurd (false≢true (sym d ∙ e)) }
 
-not_dry : (a : Asked) (r : Refusal) → dry_after a (refused r) ≡ false
+pub not_dry : (a : Asked) (r : Refusal) → dry_after a (refused r) ≡ false
 not_dry (load text) r = refl
 not_dry rewind r = refl
 not_dry (feed piece blocks) r = refl
@@ -92,37 +91,37 @@ refused_or : (o : Option Refusal) (P : Type 0) (t : Told) → By o P t → ((r :
 refused_or (Some r) P t h = inl (r, h)
 refused_or None P t h = inr (refl, h)
 
-none_some : (r : Refusal) → Some r ≡ None → ⊥
-none_some r e = let z : ◌≡◌ {A = ℕ} 0 1 = cc in omega arith
-
 -- what a call that is not refused says of the search
 rewinds : (s : State) → rewind_refusal s ≡ None → s ≡ Empty → ⊥
-rewinds Empty e o = none_some _ e
+rewinds Empty e o = none-some _ (sym e)
 rewinds Open e o = open_loaded o
 rewinds Closed e o = closed_loaded o
 
-checked : (b : Bool) (r : Refusal) (o : Option Refusal) → check b r o ≡ None → b ≡ false
-checked true r o e = absurd (none_some r e)
-checked false r o e = refl
+pub checked : (b : Bool) (r : Refusal) (o : Option Refusal) → check b r o ≡ None → (b ≡ false) × (o ≡ None)
+checked true r o e = absurd (none-some r (sym e))
+checked false r o e = (refl, e)
 
-no_waits : (ws : List Place) → some ws ≡ false → ws ≡ []
+pub no_waits : (ws : List Place) → some ws ≡ false → ws ≡ []
 no_waits [] e = refl
-no_waits (x ∷ ws) e = never (sym e)
-
-feeds : (s : State) (ws : List Place) (n bytes piece blocks : ℕ) → feed_refusal s (some ws) n bytes piece blocks ≡ None → (s ≡ Open) × (ws ≡ [])
-feeds Empty ws n bytes piece blocks e = absurd (none_some _ e)
-feeds Open ws n bytes piece blocks e = (refl, no_waits ws (checked (some ws) EndsWaiting _ e))
-feeds Closed ws n bytes piece blocks e = absurd (none_some _ e)
+no_waits (x ∷ ws) e = absurd (false≢true (sym e))
 
 closes : (s : State) (ws : List Place) (n blocks : ℕ) → close_refusal s (some ws) n blocks ≡ None → (s ≡ Open) × (ws ≡ [])
-closes Empty ws n blocks e = absurd (none_some _ e)
-closes Open ws n blocks e = (refl, no_waits ws (checked (some ws) EndsWaiting _ e))
-closes Closed ws n blocks e = absurd (none_some _ e)
+closes Empty ws n blocks e = absurd (none-some _ (sym e))
+closes Open ws n blocks e = (refl, no_waits ws (checked (some ws) EndsWaiting _ e).0)
+closes Closed ws n blocks e = absurd (none-some _ (sym e))
+
+-- where neither of two refuses, the first does not
+pub first_none : (o p : Option Refusal) → behind o p ≡ None → o ≡ None
+first_none (Some r) p e = e
+first_none None p e = refl
+
+feeds : (s : State) (ws : List Place) (n bytes piece blocks : ℕ) → feed_refusal s (some ws) n bytes piece blocks ≡ None → (s ≡ Open) × (ws ≡ [])
+feeds s ws n bytes piece blocks e = closes s ws n blocks (first_none (close_refusal s (some ws) n blocks) _ e)
 
 module _ (w : ℕ) (h : History) (F : Form) (ws : List Place) (s : Stands w h F ws) where
   is_refused : (a : Asked) (t : Told) → (r : Refusal) × (t ≡ refused r) → Settled w (on a t h)
   is_refused a t (r, e) =
-      subst (λ u. Settled w (on a u h)) (sym e) (settled (not_dry a r) (after_refused a r s))
+      subst (λ u. Settled w (on a u h)) (sym e) (settled (not_dry a r) (still (unmoved_refused a r h) s))
 
   loaded : (text : List ℕ) (t : Told) → Loads w text t → Settled w (on (load text) t h)
   loaded text (refused r) k = is_refused (load text) (refused r) (r, refl)
@@ -166,7 +165,7 @@ stands_after w h rewind t r =
 stands_after w h (feed piece blocks) t r =
     ⊎_elim (is_refused w h r.form r.waits r.stands (feed piece blocks) t)
     (λ k.
-    let y = feeds (state_of h) r.waits _ _ _ _ k.0 in
+    let y = feeds (state_of h) r.waits _ (length (taken_of h)) (length piece) blocks k.0 in
     fed_on w h r.form r.waits r.stands piece blocks t y.0 y.1 k.1)
     (refused_or _ _ t r.answers)
 stands_after w h draw t r =

@@ -70,48 +70,48 @@ stands_empty {w} {h} {F} {ws} s e =
 pub begun : (w : ℕ) (F : Form) → Stands w [] F []
 begun w F = record { sought = tt; unfed = λ e. refl; ends = early_none F }
 
--- calls that leave the four as they were leave what stands
-pub still :
-    {w : ℕ} {h : History} {F : Form} {ws : List Place} (g : History) →
-    state_of g ≡ state_of h →
-    text_of g ≡ text_of h →
-    taken_of g ≡ taken_of h →
-    drawn_of g ≡ drawn_of h →
-    Stands w h F ws →
-    Stands w g F ws
-still {w} {h} {F} {ws} g a b c d s =
+-- g is h with calls that brought nothing about
+pub record Unmoved (g h : History) : Type 0 where
+  pub state : state_of g ≡ state_of h
+  pub text : text_of g ≡ text_of h
+  pub taken : taken_of g ≡ taken_of h
+  pub drawn : drawn_of g ≡ drawn_of h
+
+-- and what stands is left by them
+pub still : {w : ℕ} {h g : History} {F : Form} {ws : List Place} → Unmoved g h → Stands w h F ws → Stands w g F ws
+still {w} {h} {g} {F} {ws} u s =
     record {
-      sought = subst (λ q. Sought q (text_of g) F) (sym a) (subst (λ x. Sought (state_of h) x F) (sym b) s.sought);
-      unfed = λ e. c ∙ s.unfed (sym a ∙ e);
+      sought = subst (λ q. Sought q (text_of g) F) (sym u.state) (subst (λ x. Sought (state_of h) x F) (sym u.text) s.sought);
+      unfed = λ e. u.taken ∙ s.unfed (sym u.state ∙ e);
       ends =
-          subst (λ q. EarlyEnds (matched w q (taken_of g)) F (drawn_of g ++ ws)) (sym a)
-          (subst (λ x. EarlyEnds (matched w (state_of h) x) F (drawn_of g ++ ws)) (sym c)
-          (subst (λ (x : List Place). EarlyEnds (matched w (state_of h) (taken_of h)) F (x ++ ws)) (sym d) s.ends));
+          subst (λ q. EarlyEnds (matched w q (taken_of g)) F (drawn_of g ++ ws)) (sym u.state)
+          (subst (λ x. EarlyEnds (matched w (state_of h) x) F (drawn_of g ++ ws)) (sym u.taken)
+          (subst (λ (x : List Place). EarlyEnds (matched w (state_of h) (taken_of h)) F (x ++ ws)) (sym u.drawn) s.ends));
     }
 
-pub after_refused :
-    {w : ℕ} {h : History} {F : Form} {ws : List Place} (a : Asked) (r : Refusal) → Stands w h F ws → Stands w (on a (refused r) h) F ws
-after_refused (load text) r s = still _ refl refl refl refl s
-after_refused rewind r s = still _ refl refl refl refl s
-after_refused (feed piece blocks) r s = still _ refl refl refl refl s
-after_refused draw r s = still _ refl refl refl refl s
-after_refused (close blocks) r s = still _ refl refl refl refl s
-after_refused taken r s = still _ refl refl refl refl s
-after_refused weight r s = still _ refl refl refl refl s
-after_refused waiting r s = still _ refl refl refl refl s
+-- a refused call
+pub unmoved_refused : (a : Asked) (r : Refusal) (h : History) → Unmoved (on a (refused r) h) h
+unmoved_refused (load text) r h = record { state = refl; text = refl; taken = refl; drawn = refl }
+unmoved_refused rewind r h = record { state = refl; text = refl; taken = refl; drawn = refl }
+unmoved_refused (feed piece blocks) r h = record { state = refl; text = refl; taken = refl; drawn = refl }
+unmoved_refused draw r h = record { state = refl; text = refl; taken = refl; drawn = refl }
+unmoved_refused (close blocks) r h = record { state = refl; text = refl; taken = refl; drawn = refl }
+unmoved_refused taken r h = record { state = refl; text = refl; taken = refl; drawn = refl }
+unmoved_refused weight r h = record { state = refl; text = refl; taken = refl; drawn = refl }
+unmoved_refused waiting r h = record { state = refl; text = refl; taken = refl; drawn = refl }
 
 pub after_taken : {w : ℕ} {h : History} {F : Form} {ws : List Place} (t : Told) → Stands w h F ws → Stands w (on taken t h) F ws
-after_taken t s = still _ refl refl refl refl s
+after_taken t s = still (record { state = refl; text = refl; taken = refl; drawn = refl }) s
 
 pub after_weight : {w : ℕ} {h : History} {F : Form} {ws : List Place} (t : Told) → Stands w h F ws → Stands w (on weight t h) F ws
-after_weight t s = still _ refl refl refl refl s
+after_weight t s = still (record { state = refl; text = refl; taken = refl; drawn = refl }) s
 
 pub after_waiting : {w : ℕ} {h : History} {F : Form} {ws : List Place} (t : Told) → Stands w h F ws → Stands w (on waiting t h) F ws
-after_waiting t s = still _ refl refl refl refl s
+after_waiting t s = still (record { state = refl; text = refl; taken = refl; drawn = refl }) s
 
 -- a draw that found none
 pub after_none : {w : ℕ} {h : History} {F : Form} {ws : List Place} → Stands w h F ws → Stands w (on draw none h) F ws
-after_none s = still _ refl refl refl refl s
+after_none s = still (record { state = refl; text = refl; taken = refl; drawn = refl }) s
 
 -- a draw that found an end
 pub after_draw :

@@ -39,92 +39,48 @@ pub data State : Type 0 where
   Closed : State
 
 abbrev pub is_done : Told → Bool
-is_done (refused r) = false
 is_done done = true
-is_done (took n) = false
-is_done (found e) = false
-is_done none = false
-is_done (count n) = false
-is_done (shown row) = false
+is_done _ = false
 
 -- bytes, and behind them as many first ones of the piece as a feed took
 abbrev pub fed : Told → List ℕ → List ℕ → List ℕ
-fed (refused r) bytes piece = bytes
-fed done bytes piece = bytes
 fed (took n) bytes piece = bytes ++ take n piece
-fed (found e) bytes piece = bytes
-fed none bytes piece = bytes
-fed (count n) bytes piece = bytes
-fed (shown row) bytes piece = bytes
+fed _ bytes piece = bytes
 
 -- ends, and behind them the one that a draw found
 abbrev pub handed : Told → List Place → List Place
-handed (refused r) ends = ends
-handed done ends = ends
-handed (took n) ends = ends
 handed (found e) ends = ends ++ e ∷ []
-handed none ends = ends
-handed (count n) ends = ends
-handed (shown row) ends = ends
+handed _ ends = ends
 
 abbrev pub found_none : Told → Bool
-found_none (refused r) = false
-found_none done = false
-found_none (took n) = false
-found_none (found e) = false
 found_none none = true
-found_none (count n) = false
-found_none (shown row) = false
+found_none _ = false
 
 abbrev pub state_after : Asked → Told → State → State
 state_after (load text) t s = cond (is_done t) Open s
 state_after rewind t s = cond (is_done t) Open s
-state_after (feed piece blocks) t s = s
-state_after draw t s = s
 state_after (close blocks) t s = cond (is_done t) Closed s
-state_after taken t s = s
-state_after weight t s = s
-state_after waiting t s = s
+state_after _ t s = s
 
 abbrev pub text_after : Asked → Told → List ℕ → List ℕ
 text_after (load text) t x = cond (is_done t) text x
-text_after rewind t x = x
-text_after (feed piece blocks) t x = x
-text_after draw t x = x
-text_after (close blocks) t x = x
-text_after taken t x = x
-text_after weight t x = x
-text_after waiting t x = x
+text_after _ t x = x
 
 abbrev pub taken_after : Asked → Told → List ℕ → List ℕ
 taken_after (load text) t bytes = cond (is_done t) [] bytes
 taken_after rewind t bytes = cond (is_done t) [] bytes
 taken_after (feed piece blocks) t bytes = fed t bytes piece
-taken_after draw t bytes = bytes
-taken_after (close blocks) t bytes = bytes
-taken_after taken t bytes = bytes
-taken_after weight t bytes = bytes
-taken_after waiting t bytes = bytes
+taken_after _ t bytes = bytes
 
 abbrev pub drawn_after : Asked → Told → List Place → List Place
 drawn_after (load text) t ends = cond (is_done t) [] ends
 drawn_after rewind t ends = cond (is_done t) [] ends
-drawn_after (feed piece blocks) t ends = ends
 drawn_after draw t ends = handed t ends
-drawn_after (close blocks) t ends = ends
-drawn_after taken t ends = ends
-drawn_after weight t ends = ends
-drawn_after waiting t ends = ends
+drawn_after _ t ends = ends
 
 abbrev pub dry_after : Asked → Told → Bool
-dry_after (load text) t = false
-dry_after rewind t = false
-dry_after (feed piece blocks) t = false
 dry_after draw t = found_none t
-dry_after (close blocks) t = false
-dry_after taken t = false
-dry_after weight t = false
-dry_after waiting t = false
+dry_after _ t = false
 
 -- empty until a load is accepted; open after an accepted load or rewind; closed after an accepted close
 abbrev pub state_of : History → State

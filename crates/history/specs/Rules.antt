@@ -24,8 +24,7 @@ matched w Closed bytes = closed bytes
 -- the form that is sought, where there is one
 abbrev pub Sought : State → List ℕ → Form → Type 0
 Sought Empty text F = Unit {0}
-Sought Open text F = Reads text F
-Sought Closed text F = Reads text F
+Sought _ text F = Reads text F
 
 -- after h the form F is sought, and the ends ws are matched and not drawn yet
 pub record Stands (w : ℕ) (h : History) (F : Form) (ws : List Place) : Type 0 where
@@ -50,28 +49,31 @@ abbrev pub check : Bool → Refusal → Option Refusal → Option Refusal
 check true r next = Some r
 check false r next = next
 
+-- the checks behind others: the first that refuses counts
+abbrev pub behind : Option Refusal → Option Refusal → Option Refusal
+behind (Some r) next = Some r
+behind None next = next
+
 abbrev pub some : List Place → Bool
 some [] = false
 some (e ∷ es) = true
 
--- why a rewind, a feed of so many bytes or a close with so many working blocks is refused, where ends wait and the text weighs n
+-- why a rewind, a close with so many working blocks or a feed of so many bytes is refused, where ends wait and the text weighs n
 abbrev pub rewind_refusal : State → Option Refusal
 rewind_refusal Empty = Some SearchEmpty
-rewind_refusal Open = None
-rewind_refusal Closed = None
-
-abbrev pub feed_refusal : State → (waits : Bool) → (n bytes piece blocks : ℕ) → Option Refusal
-feed_refusal Empty waits n bytes piece blocks = Some SearchEmpty
-feed_refusal Closed waits n bytes piece blocks = Some SearchClosed
-feed_refusal Open waits n bytes piece blocks =
-    check waits EndsWaiting
-    (check (nat_lt blocks (need n)) TooFewBlocks
-    (check (nat_lt longest_piece piece) TooManyBytes (check (nat_lt longest_recording (bytes + piece)) RecordingTooLong None)))
+rewind_refusal _ = None
 
 abbrev pub close_refusal : State → (waits : Bool) → (n blocks : ℕ) → Option Refusal
 close_refusal Empty waits n blocks = Some SearchEmpty
-close_refusal Closed waits n blocks = Some SearchClosed
 close_refusal Open waits n blocks = check waits EndsWaiting (check (nat_lt blocks (need n)) TooFewBlocks None)
+close_refusal Closed waits n blocks = Some SearchClosed
+
+-- what refuses a close refuses a feed, and then its length may, behind so many bytes
+abbrev pub piece_refusal : (bytes piece : ℕ) → Option Refusal
+piece_refusal bytes piece = check (nat_lt longest_piece piece) TooManyBytes (check (nat_lt longest_recording (bytes + piece)) RecordingTooLong None)
+
+abbrev pub feed_refusal : State → (waits : Bool) → (n bytes piece blocks : ℕ) → Option Refusal
+feed_refusal s waits n bytes piece blocks = behind (close_refusal s waits n blocks) (piece_refusal bytes piece)
 
 -- a refused call says why, and of one that is not P holds
 abbrev pub By : Option Refusal → Type 0 → Told → Type 0
@@ -82,21 +84,12 @@ By None P t = P
 abbrev pub Loads : ℕ → List ℕ → Told → Type 0
 Loads w text (refused r) = ((widest_kind < w) × (r ≡ KindTooWide)) ⊎ ((w ≤ widest_kind) × Refused text r)
 Loads w text done = (w ≤ widest_kind) × ((F : Form) × Reads text F)
-Loads w text (took n) = ⊥
-Loads w text (found e) = ⊥
-Loads w text none = ⊥
-Loads w text (count n) = ⊥
-Loads w text (shown row) = ⊥
+Loads w text _ = ⊥
 
 -- what an accepted feed answers
 abbrev pub Feeds : ℕ → Form → List ℕ → List ℕ → Told → Type 0
-Feeds w F bytes piece (refused r) = ⊥
-Feeds w F bytes piece done = ⊥
 Feeds w F bytes piece (took n) = Stops w F bytes piece n
-Feeds w F bytes piece (found e) = ⊥
-Feeds w F bytes piece none = ⊥
-Feeds w F bytes piece (count n) = ⊥
-Feeds w F bytes piece (shown row) = ⊥
+Feeds w F bytes piece _ = ⊥
 
 -- the next end that waits
 abbrev pub next : List Place → Told
@@ -105,8 +98,7 @@ next (e ∷ es) = found e
 
 abbrev pub weighs : State → Form → ℕ
 weighs Empty F = 0
-weighs Open F = form.weight F
-weighs Closed F = form.weight F
+weighs _ F = form.weight F
 
 -- the position of the first place of the block matched last
 abbrev pub last_block_of : ℕ → List ℕ → ℕ

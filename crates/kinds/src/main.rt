@@ -12,7 +12,7 @@ use word::Word;
 
 type Fourfold<B> = Doubled<Doubled<B>>;
 
-fn report<B: Block>(rt: &HostRuntime, name: &str) -> io::Result<()> {
+fn report<B: Block>(rt: &impl Print, name: &str) -> io::Result<()> {
     let width = B::width();
     match check_kind::<B>() {
         Ok(()) => println!(rt; "{name}: width {width}, keeps to the interface"),

@@ -2,6 +2,12 @@
 
 #![tactic(auto)]
 
+ghost use Rattle.std.specs.Prelude.{◌≡◌, ◌≤◌};
+ghost use Rattle.limits.specs.Limits.{heaviest, need};
+
+// The byte that closes a line and is part of none.
+pub const LINE_FEED: u8 = 0x0a;
+
 // The heaviest form that is taken.
 pub const HEAVIEST: u32 = 1000;
 
@@ -14,7 +20,9 @@ pub const LONGEST_PIECE: usize = 65_536;
 // The most bytes that a recording has.
 pub const LONGEST_RECORDING: usize = 1_000_000_000;
 
-// How many working blocks a form asks for: so many, and so many more for each unit of its weight.
-pub const BLOCKS: usize = 32;
-
-pub const BLOCKS_EACH: usize = 2;
+// How many working blocks a form of this weight asks for.
+pub fn blocks_needed(weight: usize) -> usize
+    ensures { weight ≤ heaviest → result ≡ need weight }
+{
+    weight.saturating_mul(2).saturating_add(32)
+}

@@ -19,7 +19,7 @@ use Rattle.program.proofs.Sizes.{form_classed, form_depth}
 use Rattle.machine.specs.Holding.{holding}
 use Rattle.machine.specs.Blocks.{Ready, Found, FormFits}
 
-module _ {B : Type 0} (row : B → List Bool) (w : ℕ) (marks ends : B) (blocks cleared last : List B) (carries next : List Bool) where
+module _ {B : Type 0} (row : B → List Bool) (w : ℕ) (marks ends : B) (blocks cleared last : List B) (carries next : ℕ → Bool) where
   abbrev x : Machine
   x = holding row marks cleared carries false
 
@@ -30,7 +30,7 @@ module _ {B : Type 0} (row : B → List Bool) (w : ℕ) (marks ends : B) (blocks
       → ((i : ℕ) → from ≤ i → i < to → rows row cleared i ≡ none_row w)
       → ((i : ℕ) → (i < from) ⊎ (to ≤ i) → rows row cleared i ≡ rows row blocks i)
       → (j : ℕ) → y ≡ repeated w ins program (row marks) x j
-      → (F : Form) (t : ℕ → ℕ) (b : ℕ) → Ready F t b w program from to (rows row blocks) ins → Found F t b w (row ends) (bit next)
+      → (F : Form) (t : ℕ → ℕ) (b : ℕ) → Ready F t b w program from to (rows row blocks) ins → Found F t b w (row ends) next
   found pos ins program from to all emptied others j e F t b R =
       let first = R.first in
       let end = R.last in

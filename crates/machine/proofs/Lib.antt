@@ -1,9 +1,10 @@
+pub mod Carrying
+pub mod Lending
 pub mod Writes
 pub mod Differ
 pub mod Arms
 pub mod Passes
 pub mod Found
-pub mod Fits
 pub mod Deep
 pub mod Ready
 pub mod Rows

@@ -38,8 +38,8 @@ module _ (w : ℕ) (ins : ℕ → Bool) where
 
 -- a pass that notes a change leaves fewer zeros in the stars' rows
 pub falls : {B : Type 0} (row : B → List Bool) (w : ℕ) → ((b : B) → length (row b) ≡ w) → (ins : ℕ → Bool) (n k : ℕ) (p : List Step)
-    (from to : ℕ) → from ≤ to → Each (Within n k from to) p → (blocks : List B) → to ≤ length blocks → (marks : B) (carries : List Bool)
-    (ends : B) (last : List B) (next : List Bool) (changed : Bool)
+    (from to : ℕ) → from ≤ to → Each (Within n k from to) p → (blocks : List B) → to ≤ length blocks → (marks : B) (carries : ℕ → Bool)
+    (ends : B) (last : List B) (next : ℕ → Bool) (changed : Bool)
     → holding row ends last next changed ≡ runs w ins p (holding row marks blocks carries false) → changed ≡ true
     → vacant (rows row last) from (to - from) < vacant (rows row blocks) from (to - from)
 falls row w wide ins n k p from to order fits blocks within marks carries ends last next changed e noted =

@@ -1,8 +1,9 @@
 -- A block with its rows is ready, and what it then shows. Assumes nothing.
-use Rattle.std.proofs.Common.{◌≡◌, ℕ, zero, suc, ◌+◌, ◌-◌, ◌<◌, ◌≤◌, Bool, true, false, ◌&&◌, T, eqb, ltb, List, [], ◌∷◌, ◌++◌, length, get_or, replicate, vec_items, sym, refl, ap, ◌∙◌, subst, arith, length-append, get_or-append-add}
+use Rattle.std.proofs.Common.{◌≡◌, ℕ, zero, suc, ◌+◌, ◌-◌, ◌<◌, ◌≤◌, Bool, true, false, ◌&&◌, T, eqb, ltb, List, [], ◌∷◌, ◌++◌, length, get_or, sym, refl, ap, ◌∙◌, subst, arith, length-append, get_or-append-add}
 use native.Mathlib.Decide.{dec_lt}
 use lib.ListN.{get_or-append}
 use Rattle.std.proofs.lemmas.Bool.{lt-ltb, le-ltb}
+use Rattle.std.proofs.lemmas.List.{get_or_default}
 use Rattle.block.specs.Rows.{bit, tab}
 use Rattle.block.specs.Calls.{and_row, enters}
 use Rattle.block.proofs.Rows.{bit_at, bit_past, tab_ext}
@@ -14,15 +15,18 @@ use Rattle.form.proofs.Tapes.{place_agree}
 use Rattle.stream.specs.Sets.{has}
 use Rattle.stream.specs.declared.set.ByteSet.{ByteSet}
 use Rattle.theory.specs.Block.{class_row, start_row, feed_row}
-use Rattle.theory.specs.Written.{nothing, classes, streams}
+use Rattle.theory.specs.Whole.{Carried}
+use Rattle.theory.specs.Written.{nothing, classes, streams, written}
 use Rattle.program.specs.Compile.{classes_at, stars_at}
 use Rattle.program.specs.Matched.{Standing}
 use Rattle.program.specs.Sizes.{class_count}
 use Rattle.program.proofs.Matched.{first_standing, line_starts}
+use Rattle.program.proofs.Passing.{carries_same}
 use Rattle.classes.specs.Numbered.{Are}
 use Rattle.classes.proofs.Adding.{are_long}
 use Rattle.emit.specs.Whole.{CompiledFrom, program_of, table_of}
 use Rattle.machine.specs.Blocks.{Ready, Found}
+use Rattle.machine.specs.Carrying.{entering}
 use Rattle.machine.specs.Matching.{Runs, Keeps, Matched, Shows, MatchesNext, feeds_of}
 use Rattle.machine.specs.Ruling.{Rules, no_set}
 use Rattle.machine.specs.declared.loaded.Matcher.{Matcher}
@@ -43,13 +47,8 @@ are_at (s ∷ sets) (f ∷ cs) h (suc c) l v b = are_at sets cs h.1 c (omega ari
 abbrev pub padded : List ℕ → ℕ → ℕ
 padded bytes p = get_or bytes p 0
 
-in_both : (xs : List ℕ) (i : ℕ) (d e : ℕ) → i < length xs → get_or xs i d ≡ get_or xs i e
-in_both [] i d e l = absurd (omega arith)
-in_both (x ∷ xs) zero d e l = refl
-in_both (x ∷ xs) (suc i) d e l = in_both xs i d e (omega arith)
-
 pub padded_holds : (bytes : List ℕ) → Holds (padded bytes) bytes
-padded_holds bytes i l = in_both bytes i 0 feed l
+padded_holds bytes i l = get_or_default bytes i 0 feed l
 
 pub holds_front : (t : ℕ → ℕ) (bytes piece : List ℕ) → Holds t (bytes ++ piece) → Holds t bytes
 holds_front t bytes piece h i l = h i (omega (arith, length-append bytes piece)) ∙ get_or-append bytes piece feed i l
@@ -63,7 +62,7 @@ padded_goes bytes piece w i l = get_or-append-add bytes piece i 0
 
 full_goes : (t : ℕ → ℕ) (bytes piece : List ℕ) → Holds t (bytes ++ piece) → Goes t (length bytes) (length piece) piece
 full_goes t bytes piece h i l =
-    h (length bytes + i) (omega (arith, length-append bytes piece)) ∙ get_or-append-add bytes piece i feed ∙ in_both piece i feed 0 l
+    h (length bytes + i) (omega (arith, length-append bytes piece)) ∙ get_or-append-add bytes piece i feed ∙ get_or_default piece i feed 0 l
 
 opens_agree : (t u : ℕ → ℕ) (p : ℕ) → ((i : ℕ) → i < p → t i ≡ u i) → opens t p ≡ opens u p
 opens_agree t u zero h = refl
@@ -94,7 +93,7 @@ module _ (F : Form) (bytes piece : List ℕ) (w : ℕ) (pos : 0 < w) (m : Matche
         R.classes c (omega arith)
         ∙ tab_ext w _ _ (λ i k. are_at (table_of m.compiled) (classes F) A c l (get_or piece i 0) (byte i) ∙ ap (get_or (classes F) c nothing) (sym (goes i k)))
 
-    pub ready : Ready F t b w (program_of m.compiled) (stars_at m.sizes.classes) (stars_at m.sizes.classes + m.sizes.stars) rows (bit (vec_items m.ins))
+    pub ready : Ready F t b w (program_of m.compiled) (stars_at m.sizes.classes) (stars_at m.sizes.classes + m.sizes.stars) rows (entering m.carries)
     ready =
         let C = M.runs.compiled in
         record {
@@ -107,7 +106,7 @@ module _ (F : Form) (bytes piece : List ℕ) (w : ℕ) (pos : 0 < w) (m : Matche
         }
 
   module _ (marks : List Bool) (outs : ℕ → Bool)
-      (found : (t : ℕ → ℕ) → Ready F t b w (program_of m.compiled) (stars_at m.sizes.classes) (stars_at m.sizes.classes + m.sizes.stars) rows (bit (vec_items m.ins)) → Found F t b w marks outs)
+      (found : (t : ℕ → ℕ) → Ready F t b w (program_of m.compiled) (stars_at m.sizes.classes) (stars_at m.sizes.classes + m.sizes.stars) rows (entering m.carries) → Found F t b w marks outs)
       (fits : length piece ≤ w) where
     abbrev t : ℕ → ℕ
     t = padded (bytes ++ piece)
@@ -138,7 +137,7 @@ module _ (F : Form) (bytes piece : List ℕ) (w : ℕ) (pos : 0 < w) (m : Matche
 
     -- a full block
     pub on : length piece ≡ w → (n : Matcher) → Runs F n → (behind : Bool) → behind ≡ bit (feeds_of w piece) (w - 1)
-        → bit (vec_items n.ins) ≡ outs → n.starts ≡ behind → Matched F (bytes ++ piece) n
+        → ((k : ℕ) → k < n.sizes.carries → entering n.carries k ≡ outs k) → n.starts ≡ behind → Matched F (bytes ++ piece) n
     on full n runs behind eb ei es =
         let size : length (bytes ++ piece) ≡ b + w = length-append bytes piece ∙ ap (λ k. b + k) full in
         record {
@@ -148,7 +147,9 @@ module _ (F : Form) (bytes piece : List ℕ) (w : ℕ) (pos : 0 < w) (m : Matche
               let front = holds_front u bytes piece hu in
               let goes : Goes u b w piece = subst (λ k. Goes u b k piece) full (full_goes u bytes piece hu) in
               let s = (found u (ready u front goes)).standing in
-              subst (λ k. Standing F u k (bit (vec_items n.ins))) (sym size) (subst (Standing F u (b + w)) (sym ei) s);
+              let few = runs.compiled.carries in
+              let same = carries_same (written F) 0 outs (entering n.carries) (λ i _ l. sym (ei i (omega arith))) in
+              subst (λ k. Standing F u k (entering n.carries)) (sym size) (subst (Carried (streams F u) (b + w) (written F)) same s);
           starts =
               let tp = tape (bytes ++ piece) in
               let goes : Goes tp b w piece = subst (λ k. Goes tp b k piece) full (full_goes tp bytes piece (λ i l. refl)) in
@@ -158,20 +159,14 @@ module _ (F : Form) (bytes piece : List ℕ) (w : ℕ) (pos : 0 < w) (m : Matche
 
 -- ---- the start of a recording
 
-pub fresh : (F : Form) (n : Matcher) → Runs F n → ((k : ℕ) → bit (vec_items n.ins) k ≡ false) → n.starts ≡ true → Matched F [] n
+pub fresh : (F : Form) (n : Matcher) → Runs F n → ((k : ℕ) → entering n.carries k ≡ false) → n.starts ≡ true → Matched F [] n
 fresh F n runs none s =
-    let e : bit (vec_items n.ins) ≡ (λ k. false) = λ j k. none k j in
+    let e : entering n.carries ≡ (λ k. false) = λ j k. none k j in
     record {
       runs = runs;
       carries = λ t h. subst (Standing F t 0) (sym e) (first_standing F t);
       starts = s;
     }
-
-pub no_carry : (n k : ℕ) → bit (replicate n false) k ≡ false
-unfolding bit
-no_carry zero k = refl
-no_carry (suc n) zero = refl
-no_carry (suc n) (suc k) = no_carry n k
 
 -- ---- a block, whatever was matched before
 
@@ -184,10 +179,10 @@ kept_runs F m n K R =
 
 module _ (piece : List ℕ) (w : ℕ) (pos : 0 < w) (m : Matcher) (byte : (i : ℕ) → get_or piece i 0 < 256) (rows : ℕ → List Bool)
     (R : Rules w piece m.starts (table_of m.compiled) rows) (marks : List Bool) (wide : length marks ≡ w) (outs : ℕ → Bool)
-    (found : (F : Form) (t : ℕ → ℕ) (b : ℕ) → Ready F t b w (program_of m.compiled) (stars_at m.sizes.classes) (stars_at m.sizes.classes + m.sizes.stars) rows (bit (vec_items m.ins)) → Found F t b w marks outs)
+    (found : (F : Form) (t : ℕ → ℕ) (b : ℕ) → Ready F t b w (program_of m.compiled) (stars_at m.sizes.classes) (stars_at m.sizes.classes + m.sizes.stars) rows (entering m.carries) → Found F t b w marks outs)
   where
     pub matches_full : length piece ≡ w → (n : Matcher) → Keeps m n → (behind : Bool) → behind ≡ bit (feeds_of w piece) (w - 1)
-        → bit (vec_items n.ins) ≡ outs → n.starts ≡ behind → MatchesNext m n piece w marks
+        → ((k : ℕ) → k < n.sizes.carries → entering n.carries k ≡ outs k) → n.starts ≡ behind → MatchesNext m n piece w marks
     matches_full full n K behind eb ei es =
         record {
           shows =

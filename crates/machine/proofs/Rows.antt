@@ -1,6 +1,7 @@
 -- The rows that a block is made ready with. Assumes nothing.
-use Rattle.std.proofs.Common.{◌≡◌, ℕ, ◌+◌, ◌-◌, ◌^◌, ◌<◌, ◌≤◌, Bool, true, false, ◌||◌, eqb, List, length, get_or, set, refl, ap, ◌∙◌, subst, arith, length-set}
-use native.Mathlib.Decide.{dec_lt}
+use Rattle.std.proofs.Common.{◌≡◌, ℕ, ◌+◌, ◌-◌, ◌^◌, ◌<◌, ◌≤◌, Bool, true, false, ◌||◌, eqb, List, [], ◌++◌, map, length, get_or, set, sym, refl, ap, ◌∙◌, arith, length-set, get_or-append-add}
+use lib.ListN.{get_or-append}
+use Rattle.std.proofs.lemmas.List.{length-map, map-append}
 use Rattle.block.specs.Rows.{bit, tab}
 use Rattle.block.specs.Calls.{enters, Advance}
 use Rattle.block.proofs.Rows.{tab_ext, value_ext}
@@ -18,29 +19,28 @@ use Rattle.machine.specs.Ruling.{Rules, no_set}
 held_same : (f g : ℕ → List Bool) → ((j : ℕ) → j < 8 → f j ≡ g j) → (i : ℕ) → held f i ≡ held g i
 held_same f g h i = value_ext 8 _ _ (λ j l. ap (λ r. bit r i) (h j l))
 
+module _ {B : Type 0} (row : B → List Bool) (front back : List B) where
+  rows_front : (i : ℕ) → i < length front → rows row (front ++ back) i ≡ rows row front i
+  rows_front i l = ap (λ t. get_or t i []) (map-append row front back) ∙ get_or-append (map row front) (map row back) [] i (omega (arith, length-map front row))
+
+  rows_back : (i : ℕ) → rows row (front ++ back) (length front + i) ≡ rows row back i
+  rows_back i =
+      ap (λ t. get_or t (length front + i) []) (map-append row front back)
+      ∙ ap (λ n. get_or (map row front ++ map row back) (n + i) []) (sym (length-map front row))
+      ∙ get_or-append-add (map row front) (map row back) i []
+
 module _ {B : Type 0} (row : B → List Bool) (w : ℕ) (sets : List ByteSet) where
-  -- the classes before c have their rows, made of the bytes that were in the table
-  abbrev pub Classified : List B → List B → ℕ → Type 0
-  Classified entry blocks c = (k : ℕ) → k < c → rows row blocks (classes_at + k) ≡ tab w (λ i. has (get_or sets k no_set) (held (rows row entry) i))
+  -- the rows of the classes before c, of the bytes that a table holds
+  abbrev pub Classes : List B → (ℕ → List Bool) → ℕ → Type 0
+  Classes table made n = (k : ℕ) → k < n → made k ≡ tab w (λ i. has (get_or sets k no_set) (held (rows row table) i))
 
-  abbrev pub Untouched : List B → List B → Type 0
-  Untouched entry blocks = (i : ℕ) → i < classes_at → rows row blocks i ≡ rows row entry i
-
-  pub class_more : (entry old : List B) (c : ℕ) (b : B) → classes_at + c < length old
-      → row b ≡ tab w (λ i. has (get_or sets c no_set) (held (rows row old) i))
-      → Classified entry old c × Untouched entry old → Classified entry (set old (classes_at + c) b) (c + 1) × Untouched entry (set old (classes_at + c) b)
-  class_more entry old c b h e (done, kept) = (
-    λ k l.
-        elim (dec_lt k c) [
-          | yes u ↦ rows_other row old (classes_at + c) b (classes_at + k) (λ q. omega arith) ∙ done k u
-          | no u ↦
-              let same : c ≡ k = omega arith in
-              subst (λ j. rows row (set old (classes_at + c) b) (classes_at + j) ≡ tab w (λ i. has (get_or sets j no_set) (held (rows row entry) i))) same
-              (rows_here row old (classes_at + c) b h ∙ e
-              ∙ tab_ext w _ _ (λ i l. ap (has (get_or sets c no_set)) (held_same (rows row old) (rows row entry) (λ j q. kept j (omega arith)) i)))
-        ],
-    λ i l. rows_other row old (classes_at + c) b i (λ q. omega arith) ∙ kept i l,
-  )
+  -- rows that were made behind the table
+  pub classes_behind : (table old new : List B) (n : ℕ) → length table ≡ classes_at → Classes table (rows row new) n
+      → Classes (table ++ old) (λ k. rows row (table ++ new) (classes_at + k)) n
+  classes_behind table old new n size made k l =
+      ap (λ a. rows row (table ++ new) (a + k)) (sym size)
+      ∙ rows_back row table new k ∙ made k l
+      ∙ tab_ext w _ _ (λ i _. ap (has (get_or sets k no_set)) (held_same (rows row table) (rows row (table ++ old)) (λ j m. sym (rows_front row table old j (omega arith))) i))
 
 or_false : (x : Bool) → (x || false) ≡ x
 or_false true = refl
@@ -61,7 +61,7 @@ module _ {B : Type 0} (row : B → List Bool) (w : ℕ) (bytes : List ℕ) (star
       ap (has one) (at i l) ∙ with v (byte i) ∙ ap (λ y. eqb v feed || y) (none v (byte i)) ∙ or_false (eqb v feed))
 
   pub ruled : row feeds ≡ feeds_of w bytes → Advance w (row feeds) start (row starts) out → classes_at + length sets ≤ length blocks
-      → Classified row w sets table blocks (length sets)
+      → Classes row w sets table (λ k. rows row blocks (classes_at + k)) (length sets)
       → Rules w bytes start sets (rows row (set (set blocks feeds_at feeds) starts_at starts)) × (row feeds ≡ feeds_of w bytes) × (out ≡ bit (feeds_of w bytes) (w - 1))
   ruled ef A room done =
       let long : length (set blocks feeds_at feeds) ≡ length blocks = simp length-set in

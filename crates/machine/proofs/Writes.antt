@@ -1,7 +1,6 @@
 -- A write to a table changes its view at one number. Assumes nothing.
-use Rattle.std.proofs.Common.{◌≡◌, ℕ, ◌<◌, Bool, true, false, cond, eqb, ◌≢◌, List, length, set, refl, ap, ◌∙◌, length-set, get_or-set_other, get_or-set_same}
+use Rattle.std.proofs.Common.{◌≡◌, ℕ, ◌<◌, Bool, true, false, cond, eqb, ◌≢◌, List, length, set, refl, ap, ◌∙◌}
 use Rattle.std.proofs.lemmas.Bool.{eqb-true, eqb-false}
-use Rattle.block.specs.Rows.{bit}
 use Rattle.stream.specs.Tables.{rows}
 use Rattle.stream.proofs.Tables.{rows_here, rows_other}
 use Rattle.program.specs.Machine.{put}
@@ -15,19 +14,10 @@ put_is f r v g here there = λ j i. go i (eqb i r) refl j
     go i true e = ap g (eqb-true i r e) ∙ here
     go i false e = there i (eqb-false i r e)
 
-pub bit_set : (carries : List Bool) (k : ℕ) (v : Bool) → k < length carries → bit (set carries k v) ≡ put (bit carries) k v
-unfolding bit
-bit_set carries k v h =
-    put_is (bit carries) k v (bit (set carries k v)) (get_or-set_same carries k v false h) (λ i n. get_or-set_other carries k i v false n)
-
 pub rows_set : {B : Type 0} (row : B → List Bool) (table : List B) (i : ℕ) (b : B) → i < length table
     → rows row (set table i b) ≡ put (rows row table) i (row b)
 rows_set row table i b h =
     put_is (rows row table) i (row b) (rows row (set table i b)) (rows_here row table i b h) (rows_other row table i b)
-
--- a write keeps a table's length
-pub long_set : {B : Type 0} (table new : List B) (i : ℕ) (b : B) → new ≡ set table i b → length new ≡ length table
-long_set table new i b e = ap length e ∙ simp length-set
 
 pub rows_written : {B : Type 0} (row : B → List Bool) (table new : List B) (i : ℕ) (b : B) → new ≡ set table i b → (j : ℕ)
     → rows row new j ≡ rows row (set table i b) j

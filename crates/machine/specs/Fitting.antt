@@ -1,19 +1,22 @@
--- Whether a program's numbers are in range, as a test. Assumes nothing.
-use Rattle.std.specs.Prelude.{ℕ, Bool, true, not, ◌&&◌, List, [], ◌∷◌, nat_le, nat_lt}
+-- A program is in range in at most one way, so that a struct may keep the fact. Assumes nothing.
+use Rattle.std.specs.Prelude.{ℕ, List, [], ◌∷◌}
+use Rattle.std.specs.Coded.{×_prop, →_prop, Unit-prop, le_prop}
+use mathlib.Core.HLevel.{×₃_prop, ⊥_prop}
 use Rattle.program.specs.declared.Step.{Step}
 use Rattle.program.specs.declared.Step.TheVariants.{Take, Run, More, Keep, Save, Load, Or, Grow}
+use Rattle.program.specs.Compile.{Within, Each}
 
--- the step's numbers are in range, of n rows and k carries; to the rows from s to before e, the stars', it only adds
-abbrev pub fit : (n k s e : ℕ) → Step → Bool
-fit n k s e (Take c j) = nat_lt c n && nat_lt j k
-fit n k s e (Run c j) = nat_lt c n && nat_lt j k
-fit n k s e (More c j) = nat_lt c n && nat_lt j k
-fit n k s e (Keep r) = nat_lt r n
-fit n k s e (Save r) = nat_lt r n && not (nat_le s r && nat_lt r e)
-fit n k s e (Load r) = nat_lt r n
-fit n k s e (Or r) = nat_lt r n
-fit n k s e (Grow r) = nat_lt r n && (nat_le s r && nat_lt r e)
+module _ (n k s e : ℕ) where
+  pub Within-prop : (p : Step) → IsProp (Within n k s e p)
+  Within-prop (Take c j) = ×_prop le_prop le_prop
+  Within-prop (Run c j) = ×_prop le_prop le_prop
+  Within-prop (More c j) = ×_prop le_prop le_prop
+  Within-prop (Keep r) = le_prop
+  Within-prop (Save r) = ×_prop le_prop (→_prop (→_prop ⊥_prop))
+  Within-prop (Load r) = le_prop
+  Within-prop (Or r) = le_prop
+  Within-prop (Grow r) = ×₃_prop le_prop le_prop le_prop
 
-unfoldable pub all_fit : (n k s e : ℕ) → List Step → Bool
-all_fit n k s e [] = true
-all_fit n k s e (p ∷ ps) = fit n k s e p && all_fit n k s e ps
+  pub Each-prop : (ps : List Step) → IsProp (Each (Within n k s e) ps)
+  Each-prop [] = Unit-prop
+  Each-prop (p ∷ ps) = ×_prop (Within-prop p) (Each-prop ps)

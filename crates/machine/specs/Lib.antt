@@ -1,3 +1,5 @@
+pub mod Carrying
+pub mod Lending
 pub mod Holding
 pub mod Blocks
 pub mod Fitting

@@ -1,5 +1,5 @@
 -- What a matcher holds, and what the blocks that it matches show. Assumes nothing.
-use Rattle.std.specs.Prelude.{◌≡◌, ℕ, ◌+◌, ◌-◌, ◌<◌, ◌≤◌, Bool, false, T, ◌⊎◌, ◌↔◌, List, [], ◌++◌, length, Ok, Err, vec_items, Result, nat_eq, slice_index}
+use Rattle.std.specs.Prelude.{◌≡◌, ℕ, ◌+◌, ◌-◌, ◌<◌, ◌≤◌, Bool, false, T, ◌⊎◌, ◌↔◌, List, [], ◌++◌, length, Ok, Err, Result, nat_eq, slice_index}
 use Rattle.block.specs.Rows.{bit, tab}
 use Rattle.limits.specs.Limits.{widest_kind, need}
 use Rattle.form.specs.Form.{Form, weight}
@@ -13,6 +13,7 @@ use Rattle.program.specs.Compile.{feeds_at}
 use Rattle.program.specs.Matched.{Standing}
 use Rattle.program.specs.Sizes.{brackets}
 use Rattle.emit.specs.Whole.{CompiledFrom}
+use Rattle.machine.specs.Carrying.{entering}
 use Rattle.machine.specs.declared.loaded.Matcher.{Matcher}
 use Rattle.machine.specs.declared.shown.Shown.{Shown}
 
@@ -30,7 +31,7 @@ pub record Loaded (F : Form) (m : Matcher) : Type 0 where
 -- it has matched these bytes in full blocks: its carries stand for the matches from before the next block, whatever follows
 pub record Matched (F : Form) (bytes : List ℕ) (m : Matcher) : Type 0 where
   pub runs : Runs F m
-  pub carries : (t : ℕ → ℕ) → Holds t bytes → Standing F t (length bytes) (bit (vec_items m.ins))
+  pub carries : (t : ℕ → ℕ) → Holds t bytes → Standing F t (length bytes) (entering m.carries)
   pub starts : m.starts ≡ opens (tape bytes) (length bytes)
 
 -- n has the form that m has
@@ -41,10 +42,10 @@ pub record Keeps (m n : Matcher) : Type 0 where
   pub compiled : n.compiled ≡ m.compiled
   pub sizes : n.sizes ≡ m.sizes
 
--- n is as m was, but for the room in which a text is read and the carries to the next block are made
+-- n is as m was, but for the room in which a text is read
 pub record Same (m n : Matcher) : Type 0 where
   pub keeps : Keeps m n
-  pub ins : n.ins ≡ m.ins
+  pub carries : n.carries ≡ m.carries
   pub starts : n.starts ≡ m.starts
 
 -- The marks show just the ends, at the positions of a piece behind these bytes, of every recording that goes on from there, and none

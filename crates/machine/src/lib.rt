@@ -1,9 +1,10 @@
-// Programs of steps run over blocks of any kind: the rows are working blocks that are lent, the marks go by value, and the carries
-// are the caller's. This is the inner part of the matcher: the calls that it will make stand inside the crate, since they ask that
-// the program fits the table, which the matcher will have tested.
+// Programs of steps run over blocks of any kind: the rows are working blocks that are lent, and the marks go by value. `Matcher` keeps
+// a form's program and the carries from block to block. The calls that it makes stand inside the crate: they ask that there are
+// the rows and carries that the program needs, which the matcher tests once.
 
 #![tactic(auto)]
 
+mod carries;
 mod loaded;
 mod registers;
 mod rules;

@@ -1,10 +1,11 @@
 // The form of a text, ready to be matched block after block.
-ghost use Rattle.std.specs.Prelude.{◌≡◌, ◌+◌, ◌≤◌, true, length, vec_len};
+ghost use Rattle.std.specs.Prelude.{◌≡◌, ◌+◌, ◌≤◌, length};
 ghost use Rattle.limits.specs.Limits.{heaviest};
 ghost use Rattle.emit.specs.Whole.{program_of, table_of};
-ghost use Rattle.machine.specs.Fitting.{all_fit};
-ghost use Rattle.program.specs.Compile.{classes_at, stars_at};
+ghost use Rattle.machine.specs.Fitting.{Each-prop};
+ghost use Rattle.program.specs.Compile.{Each, Within, classes_at, stars_at};
 
+use crate::carries::Carries;
 use emit::{Compiled, Sizes};
 use tree::store::Tree;
 
@@ -17,9 +18,7 @@ pub struct Matcher {
     weight: usize,
     compiled: Compiled,
     sizes: Sizes,
-    // The carries from the block before, and room for those to the next.
-    ins: Vec<bool>,
-    outs: Vec<bool>,
+    carries: Carries,
     // Whether a line starts at the next block's first place.
     starts: bool,
     ghost light: { weight ≤ heaviest },
@@ -27,9 +26,8 @@ pub struct Matcher {
     ghost classes: { length (table_of compiled) ≡ sizes.classes },
     ghost stars: { stars_at sizes.classes + sizes.stars ≤ sizes.rows },
     ghost rows: { sizes.rows ≤ classes_at + weight },
-    ghost fits: { all_fit sizes.rows heaviest (stars_at sizes.classes) (stars_at sizes.classes + sizes.stars) (program_of compiled) ≡ true },
-    ghost long: { vec_len ins ≡ heaviest },
-    ghost wide: { vec_len outs ≡ heaviest },
+    ghost fits: { Each (Within sizes.rows heaviest (stars_at sizes.classes) (stars_at sizes.classes + sizes.stars)) (program_of compiled) } by { Each-prop sizes.rows heaviest (stars_at sizes.classes) (stars_at sizes.classes + sizes.stars) (program_of compiled) },
+    ghost few: { sizes.carries ≤ heaviest },
 }
 
 mod blocks;

@@ -1,8 +1,10 @@
 // The working blocks by number.
 ghost use Rattle.std.specs.Prelude.{◌≡◌, ◌<◌, length, slice_index_or, slice_set};
+ghost use Rattle.machine.specs.Lending.{Lent};
 
 use block::Block;
 
+// One block of a slice. The register file hands its slice to this and to `store`, whose proofs know nothing of who lent it.
 fn at<B: Block>(blocks: &[B], i: usize) -> B
     requires { i < length blocks.now }
     ensures { result ≡ slice_index_or blocks.now i result }
@@ -17,8 +19,8 @@ fn store<B: Block>(blocks: &mut [B], i: usize, block: B)
     blocks[i] = block;
 }
 
-// A numbered table over blocks that are lent. Each call that may write says that the reference is still the same one, by its name:
-// so who lent the blocks knows what they hold afterwards.
+// A numbered table over blocks that are lent. Each call that may write says that the reference to them is still the lender's, by the
+// name that the proof has for it: so the lender knows what the blocks hold afterwards.
 #[derive(Drop)]
 pub struct Registers<'a, B> {
     blocks: &'a mut [B],
@@ -43,7 +45,7 @@ impl<'a, B: Block> Registers<'a, B> {
     pub(crate) fn put(&mut self, i: usize, block: B)
         requires { i < length self.old.blocks.now }
         ensures value { self.new.blocks.now ≡ slice_set self.old.blocks.now i block }
-        ensures lender { self.new.blocks.ghost_name ≡ self.old.blocks.ghost_name }
+        ensures lent { Lent self.old self.new }
     {
         store(self.blocks, i, block);
     }

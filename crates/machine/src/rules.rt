@@ -9,18 +9,10 @@ ghost use Rattle.machine.specs.Matching.{feeds_of};
 ghost use Rattle.machine.specs.Ruling.{Rules, no_set};
 
 use block::Block;
+use limits::LINE_FEED;
+use program::{CLASSES, FEEDS, STARTS};
 use refusal::Refusal;
 use stream::{ByteSet, class, transpose};
-
-// The rows of line feeds, of line starts and of the first class.
-const FEEDS: usize = 16;
-
-const STARTS: usize = 17;
-
-pub(crate) const CLASSES: usize = 18;
-
-// The byte that closes a line.
-const FEED: u8 = 0x0A;
 
 // The row of each class, from the bytes that the first eight blocks hold.
 fn classify<B: Block>(blocks: &mut [B], sets: &[ByteSet]) -> Result<(), Refusal>
@@ -28,9 +20,10 @@ fn classify<B: Block>(blocks: &mut [B], sets: &[ByteSet]) -> Result<(), Refusal>
     ensures classes { MatchResult result (λ _. (c : ℕ) → c < length sets.now → rows B.Block.row blocks.new (classes_at + c) ≡ tab B.places (λ i. has (slice_index_or sets.now c no_set) (held (rows B.Block.row blocks.old) i))) (λ _. ⊥) }
     ensures others { (i : ℕ) → i < classes_at → rows B.Block.row blocks.new i ≡ rows B.Block.row blocks.old i }
 {
+    let (table, rows) = blocks.split_at_mut(CLASSES);
+    // By number: of a loop over a zip with `iter_mut` the proof does not know what it has written.
     for (c, set) in sets.iter().enumerate() {
-        let row = class(blocks, *set)?;
-        blocks[CLASSES + c] = row;
+        rows[c] = class(table, *set)?;
     }
     Ok(())
 }
@@ -48,7 +41,7 @@ pub(crate) fn rule<B: Block>(
     ensures { MatchResult result (λ x. Rules B.places bytes.now start sets.now (rows B.Block.row blocks.new) × (B.Block.row x.0 ≡ feeds_of B.places bytes.now) × (x.1 ≡ bit (feeds_of B.places bytes.now) (B.places - 1))) (λ _. ⊥) }
 {
     transpose(bytes, blocks)?;
-    let feeds = class(blocks, ByteSet::none().with(FEED))?;
+    let feeds = class(blocks, ByteSet::none().with(LINE_FEED))?;
     let (starts, behind) = feeds.advance(start);
     classify(blocks, sets)?;
     blocks[FEEDS] = feeds;

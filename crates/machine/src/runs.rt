@@ -1,41 +1,27 @@
-// A program over one block.
-ghost use Rattle.std.specs.Prelude.{◌≡◌, ℕ, ◌≤◌, length};
-ghost use Rattle.block.specs.Rows.{bit};
-ghost use Rattle.block.specs.Calls.{widest};
-ghost use Rattle.form.specs.Form.{Form};
-ghost use Rattle.stream.specs.Tables.{rows};
-ghost use Rattle.program.specs.Compile.{Within, Each};
-ghost use Rattle.machine.specs.Blocks.{Ready, Found, FormFits};
+// A form's program, and its run over one block.
+ghost use Rattle.std.specs.Prelude.{◌≤◌};
+ghost use Rattle.limits.specs.Limits.{heaviest};
+ghost use Rattle.machine.specs.Blocks.{FormFits};
+ghost use Rattle.machine.specs.Fitting.{Each-prop};
+ghost use Rattle.program.specs.Compile.{Each, Within};
 
-use crate::registers::Registers;
-use crate::steps::{clear, settle};
-use block::Block;
 use program::Step;
+use std::ops::Range;
 
-// The ends of matches in a block, and the carries to the next one.
-//
-// For the matcher, which keeps the program of a form with the numbers of its stars' rows, and refuses kinds that are too wide and
-// too few blocks: so what is required is not tested here.
-pub(crate) fn run_block<B: Block>(
-    program: &[Step],
-    from: usize,
-    to: usize,
-    registers: &mut Registers<'_, B>,
-    ins: &[bool],
-    carries: &mut [bool],
-) -> B
-    requires seen { B.places ≤ widest }
-    requires range { Each (Within (length registers.old.blocks.now) (length ins.now) from to) program.now }
-    requires order { from ≤ to }
-    requires within { to ≤ length registers.old.blocks.now }
-    requires long { length carries.old ≡ length ins.now }
-    ensures found { (F : Form) (t : ℕ → ℕ) (b : ℕ) → Ready F t b B.places program.now from to (rows B.Block.row registers.old.blocks.now) (bit ins.now) → Found F t b B.places (B.Block.row result) (bit carries.new) }
-    ensures long { length registers.new.blocks.now ≡ length registers.old.blocks.now }
-    ensures lender { registers.new.blocks.ghost_name ≡ registers.old.blocks.ghost_name }
-{
-    clear(registers, from, to);
-    settle(program, B::all(), from, to, registers, ins, carries)
+// The steps, the stars' rows, and how many rows there are in all: what the steps ask for is known once, and not tested at each. That a
+// kind is narrow enough, and that there are so many blocks, is about the blocks that are lent: each function asks for it, since no
+// ghost field can stand beside a mutable reference.
+#[derive(Drop)]
+pub(crate) struct Program<'a> {
+    pub(crate) steps: &'a [Step],
+    pub(crate) stars: Range<usize>,
+    pub(crate) rows: usize,
+    ghost order: { stars.start ≤ stars.end },
+    ghost within: { stars.end ≤ rows },
+    ghost fits: { Each (Within rows heaviest stars.start stars.end) steps.now } by { Each-prop rows heaviest stars.start stars.end steps.now },
 }
+
+mod passes;
 
 // A form's program is in range wherever there are the rows and carries that it needs.
 pub fn forms_fit()

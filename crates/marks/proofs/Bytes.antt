@@ -1,6 +1,8 @@
 -- Bytes put into a block: a single one, and ones from the first place on. Assumes nothing.
 use Rattle.std.proofs.Common.{◌≡◌, ℕ, ◌+◌, ◌-◌, ◌*◌, ◌/◌, ◌%◌, ◌^◌, ◌<◌, ◌≤◌, min, Bool, false, eqb, ltb, List, length, sym, ap, ◌∙◌, inl, inr, arith, pow_pos, le-ltb, lt-ltb, eq-eqb, ne_eqb}
 use native.Mathlib.Decide.{dec_lt}
+use Rattle.std.specs.Cmp.Derive.{one_truth}
+use Rattle.std.proofs.lemmas.Bool.{ltb-true}
 use Rattle.std.proofs.lemmas.Bool.Decides.{eqb_tells}
 use Rattle.block.specs.Rows.{bit, tab, is_one, bit_of}
 use Rattle.block.specs.Calls.{widest, answered, none_row, Served, Put}
@@ -33,13 +35,7 @@ ones_bit m j =
     ]
 
 pub ltb_same : (a b c d : ℕ) → (a < b → c < d) → (c < d → a < b) → ltb a b ≡ ltb c d
-ltb_same a b c d to from =
-    elim (dec_lt a b) [
-      | yes l ↦ lt-ltb a b l ∙ sym (lt-ltb c d (to l))
-      | no l ↦
-          le-ltb a b (omega arith)
-          ∙ elim (dec_lt c d) [ yes k ↦ absurd (let h = from k in omega arith) | no k ↦ sym (le-ltb c d (omega arith)) ]
-    ]
+ltb_same a b c d to from = one_truth (ltb a b) (ltb c d) (λ e. lt-ltb c d (to (ltb-true a b e))) (λ e. lt-ltb a b (from (ltb-true c d e)))
 
 -- one bit in a block of zeros
 pub put_one : (w : ℕ) (a r : List Bool) (p byte : ℕ) → w % 8 ≡ 0 → length r ≡ w → a ≡ none_row w → byte ≡ 2 ^ (p % 8)

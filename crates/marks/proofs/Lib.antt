@@ -1,4 +1,5 @@
 pub mod Marked
 pub mod Bytes
+pub mod Stepping
 pub mod Passing
 pub mod Listed

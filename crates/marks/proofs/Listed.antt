@@ -1,14 +1,16 @@
 -- The turns of a listing. Assumes nothing.
-use Rattle.std.proofs.Common.{◌≡◌, ℕ, suc, ◌+◌, ◌-◌, ◌<◌, ◌≤◌, max, Bool, true, false, List, [], ◌∷◌, ◌++◌, map, length, take, drop, set, sym, refl, ap, ◌∙◌, ap₂, arith, le-leb}
+use Rattle.std.proofs.Common.{◌≡◌, ℕ, suc, ◌+◌, ◌-◌, ◌<◌, ◌≤◌, max, Bool, true, false, List, Err, [], ◌∷◌, ◌++◌, map, length, take, drop, set, sym, refl, ap, ◌∙◌, ap₂, subst, arith, le-leb}
 use borrow.Author.Tests.{lt-leb}
 use Rattle.std.proofs.lemmas.List.{append_assoc, length-append, length_push, take_at, drop_at, take_more_set, take-set-le, drop-set-lt, drop-drop}
 use Rattle.block.specs.Rows.{bit}
 use Rattle.form.specs.Positions.{line_at, start_at, place_at}
 use Rattle.form.specs.Running.{places_from}
+use Rattle.refusal.specs.declared.Refusal.TheVariants.{TableTooShort}
 use Rattle.refusal.specs.declared.ends.End.{End}
 use Rattle.marks.specs.declared.count.Lines.{Lines}
+use Rattle.marks.specs.declared.line.Spot.{Spot}
 use Rattle.marks.specs.Counting.{end_of, Counts, Moves}
-use Rattle.marks.specs.Listing.{ends_from, Lists}
+use Rattle.marks.specs.Listing.{ends_from, Lists, ListsEnds}
 use Rattle.marks.proofs.Marked.{places_quiet, places_next, places_joined}
 
 -- ---- the ends from a place on
@@ -88,8 +90,11 @@ module _ {B : Type 0} (row : B → List Bool) (w : ℕ) (ends : B) (old : Lines 
         ap length T.split ∙ length-append (L.taken t).0 (ends_at t at) ∙ ap (λ n. n + length (ends_at t at)) T.long
 
     -- the lines moved on to the first end from `at` on
-    module _ (next : Lines B) (p : ℕ) (M : Moves row w new next p) (from : at ≤ p) (to : p < w) (here : bit (row ends) p ≡ true)
+    module _ (next : Lines B) (p : ℕ) (M : Moves row w new next (max new.at p)) (from : at ≤ p) (to : p < w) (here : bit (row ends) p ≡ true)
         (none : (i : ℕ) → at ≤ i → i < p → bit (row ends) i ≡ false) where
+      there : next.at ≡ p
+      there = M.at ∙ omega (arith, L.order)
+
       counted : (t : ℕ → ℕ) → Counts row w t old → Counts row w t next
       counted t k = M.counts t (L.counts t k)
 
@@ -100,10 +105,10 @@ module _ {B : Type 0} (row : B → List Bool) (w : ℕ) (ends : B) (old : Lines 
       found t = skipped t ∙ ends_here t (row ends) old.base w p to here
 
       -- it fits
-      pub turn : (e : End) → length after ≡ length before → got < length after
-          → e.line ≡ next.number → e.column ≡ next.base + next.at - next.start → e.position ≡ next.base + next.at
+      pub turn : (here : Spot) (e : End) → length after ≡ length before → got < length after → here.position ≡ next.base + next.at → here.line ≡ next.line
+          → e ≡ record { line = here.line.number; column = here.position - here.line.start; position = here.position }
           → Listed next (p + 1) (set after got e) (got + 1)
-      turn e long fits line column position =
+      turn here e long fits position line is =
           record {
             feeds = M.feeds ∙ L.feeds;
             base = M.base ∙ L.base;
@@ -121,11 +126,12 @@ module _ {B : Type 0} (row : B → List Bool) (w : ℕ) (ends : B) (old : Lines 
           same : (t : ℕ → ℕ) → Counts row w t old → e ≡ end_of (place_at t (old.base + p))
           same t k =
               let c = counted t k in
-              let q : next.base + next.at ≡ old.base + p = ap₂ ◌+◌ (M.base ∙ L.base) M.at in
-              let n : e.line ≡ line_at t (old.base + p) = line ∙ c.line ∙ ap (line_at t) q in
-              let s : e.column ≡ old.base + p - start_at t (old.base + p) = column ∙ ap₂ ◌-◌ q (c.start ∙ ap (start_at t) q) in
-              let x : e.position ≡ old.base + p = position ∙ q in
-              λ i. record { line = n i; column = s i; position = x i }
+              let q : next.base + next.at ≡ old.base + p = ap₂ ◌+◌ (M.base ∙ L.base) there in
+              let x : here.position ≡ old.base + p = position ∙ q in
+              let n : here.line.number ≡ line_at t (old.base + p) = ap (λ l. l.number) line ∙ c.line ∙ ap (line_at t) q in
+              let s : here.position - here.line.start ≡ old.base + p - start_at t (old.base + p) =
+              ap₂ ◌-◌ x (ap (λ l. l.start) line ∙ c.start ∙ ap (start_at t) q) in
+              is ∙ λ i. record { line = n i; column = s i; position = x i }
 
           more : (t : ℕ → ℕ) → (es : List End) × Taken (ends_at t old.at) (ends_at t (p + 1)) before count (set after got e) (got + 1) (Counts row w t old) es
           more t =
@@ -142,16 +148,17 @@ module _ {B : Type 0} (row : B → List Bool) (w : ℕ) (ends : B) (old : Lines 
               )
 
       -- it does not fit
-      pub short : length before ≤ got → Lists row w ends old next before after count got false
+      short : length before ≤ got → Lists row w ends old next before after count got false
       short full =
           record {
             feeds = M.feeds ∙ L.feeds;
             base = M.base ∙ L.base;
             order = omega arith;
             within = λ h. omega arith;
+            passed = λ f h. cc;
             reached = λ t. let n = longer t in omega arith;
             fitted = λ t. let n = longer t in sym (lt-leb (length (ends_at t old.at)) (length before - count) (omega arith));
-            left = λ t. ap (ends_at t) M.at ∙ sym (skipped t) ∙ back t;
+            left = λ t. ap (ends_at t) there ∙ sym (skipped t) ∙ back t;
             counts = counted;
             listed = front;
             kept = L.kept;
@@ -160,6 +167,11 @@ module _ {B : Type 0} (row : B → List Bool) (w : ℕ) (ends : B) (old : Lines 
         where
           longer : (t : ℕ → ℕ) → got - count < length (ends_at t old.at)
           longer t = let n = many t ∙ ap (λ l. got - count + length l) (found t) in omega arith
+
+      pub refused : length before ≤ got → ListsEnds row w ends old next before after count (Err TableTooShort)
+      refused full =
+          let e : got ≡ max count (length before) = let g = L.grown in let r = L.room in omega arith in
+          (refl, subst (λ (n : ℕ). Lists row w ends old next before after count n false) e (short full))
 
     -- no end more: the lines moved on behind the last place
     pub ended : (next : Lines B) → Moves row w new next (max new.at w) → ((i : ℕ) → at ≤ i → i < w → bit (row ends) i ≡ false)
@@ -170,6 +182,7 @@ module _ {B : Type 0} (row : B → List Bool) (w : ℕ) (ends : B) (old : Lines 
           base = M.base ∙ L.base;
           order = omega arith;
           within = λ h. let l = L.within h in omega arith;
+          passed = λ f h. let l = L.within h in let k = L.order in M.at ∙ omega arith;
           reached = λ t. let n = just t in omega arith;
           fitted = λ t. let n = just t in sym (le-leb (length (ends_at t old.at)) (length before - count) (omega arith));
           left = λ t. ends_none t (row ends) old.base w next.at (λ i h l. absurd (omega arith)) ∙ sym (nothing t) ∙ back t;

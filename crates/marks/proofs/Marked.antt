@@ -1,6 +1,7 @@
 -- The places that are marked on a tape. Assumes nothing.
-use Rattle.std.proofs.Common.{◌≡◌, ℕ, zero, suc, ◌+◌, ◌-◌, ◌<◌, ◌≤◌, Bool, true, false, cond, not, ◌&&◌, ◌||◌, eqb, List, [], ◌∷◌, ◌++◌, sym, refl, ap, ◌∙◌, ap₂, arith, eq-eqb, ne_eqb}
+use Rattle.std.proofs.Common.{◌≡◌, ℕ, zero, suc, ◌+◌, ◌-◌, ◌<◌, ◌≤◌, Bool, true, false, cond, not, ◌&&◌, ◌||◌, eqb, List, [], ◌∷◌, ◌++◌, length, sym, refl, ap, ◌∙◌, ap₂, arith, eq-eqb, ne_eqb}
 use native.Mathlib.Decide.{dec_lt}
+use Rattle.std.proofs.Math.Bool.{and-true}
 use Rattle.block.specs.Rows.{bit}
 use Rattle.form.specs.Positions.{place_at}
 use Rattle.form.specs.Running.{places_from}
@@ -51,6 +52,15 @@ places_joined t m a (suc c) d =
     spread true = refl
     spread false = refl
 
+-- no more places than positions
+pub places_few : (t : ℕ → ℕ) (m : ℕ → Bool) (a c : ℕ) → length (places_from t m a c) ≤ c
+places_few t m a zero = omega arith
+places_few t m a (suc c) = go (m a) (places_few t m (suc a) c)
+  where
+    go : (b : Bool) → length (places_from t m (suc a) c) ≤ c → length (cond b (place_at t a ∷ places_from t m (suc a) c) (places_from t m (suc a) c)) ≤ suc c
+    go true h = omega arith
+    go false h = omega arith
+
 -- the places depend only on the bytes up to the last and on the marks between
 pub places_agree : (t u : ℕ → ℕ) (m n : ℕ → Bool) (a c : ℕ) → ((i : ℕ) → i < a + c → t i ≡ u i) → ((q : ℕ) → a ≤ q → q < a + c → m q ≡ n q)
     → places_from t m a c ≡ places_from u n a c
@@ -86,11 +96,7 @@ places_first t row rest b w p l here none gone =
         ]
 
     later : (q : ℕ) → b + suc p ≤ q → q < b + suc p + (w - suc p) → bit rest (q - b) ≡ bit row (q - b)
-    later q h k = gone (q - b) (omega arith) ∙ ap (λ x. bit row (q - b) && not x) (ne_eqb (q - b) p (λ e. omega arith)) ∙ and_true (bit row (q - b))
-      where
-        and_true : (x : Bool) → (x && true) ≡ x
-        and_true true = refl
-        and_true false = refl
+    later q h k = gone (q - b) (omega arith) ∙ ap (λ x. bit row (q - b) && not x) (ne_eqb (q - b) p (λ e. omega arith)) ∙ and-true (bit row (q - b))
 
     tail : places_from t (λ q. bit rest (q - b)) b w ≡ places_from t (λ q. bit row (q - b)) (suc (b + p)) (w - suc p)
     tail =

@@ -1,4 +1,5 @@
 pub mod Bounds
+pub mod Ones
 pub mod Counting
 pub mod Listing
 pub mod Among

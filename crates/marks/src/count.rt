@@ -3,16 +3,18 @@ ghost use Rattle.std.specs.Prelude.{◌≡◌, ◌+◌, ◌≤◌, ⊤};
 ghost use Rattle.block.specs.Calls.{widest};
 ghost use Rattle.marks.specs.Bounds.{farthest};
 
+use crate::line::Line;
+use block::WIDEST;
 use limits::LONGEST_RECORDING;
 use std::alloc::AllocError;
 
 mod listing;
 mod walk;
 
-pub use crate::count::listing::list_block;
+pub use crate::count::listing::{list_block, list_to};
 
 // No block begins behind this position, so that no sum of a position and a place wraps.
-pub const FARTHEST: usize = LONGEST_RECORDING + 65_528;
+pub const FARTHEST: usize = LONGEST_RECORDING + WIDEST;
 
 // Lines are counted by the line feeds of one block after the other.
 pub struct Lines<B> {
@@ -22,16 +24,15 @@ pub struct Lines<B> {
     base: usize,
     // The place up to which lines are counted.
     at: usize,
-    // The line of that place, from 1.
-    number: usize,
-    // The position where that line starts.
-    start: usize,
+    // The line of that place.
+    line: Line,
     ghost within: { at ≤ widest },
     ghost far: { base ≤ farthest },
-    ghost counted: { number ≤ base + at + 1 },
-    ghost begun: { start ≤ base + at },
+    ghost counted: { line.number ≤ base + at + 1 },
+    ghost begun: { line.start ≤ base + at },
 }
 
+// By hand: `Clone` is not derived for a struct that has a type parameter and ghost fields.
 impl<B: Copy> Clone for Lines<B> {
     ghost is_clone = { λ x y. y ≡ x };
 

@@ -6,5 +6,6 @@ mod count;
 mod line;
 mod ones;
 
-pub use count::{FARTHEST, Lines, list_block};
+pub use count::{FARTHEST, Lines, list_block, list_to};
+pub use line::{Line, Spot};
 pub use ones::{below, one};

@@ -1,40 +1,54 @@
-// Lines counted by the stream of line feeds.
-ghost use Rattle.std.specs.Prelude.{ℕ, ◌+◌, ◌≤◌};
-ghost use Rattle.block.specs.Calls.{answered};
-ghost use Rattle.marks.specs.Bounds.{farthest};
-ghost use Rattle.marks.specs.Counting.{FeedsAt, Counted};
+// Lines of a recording, and positions in them.
+ghost use Rattle.std.specs.Prelude.{◌≡◌, ◌+◌, ◌-◌, ◌≤◌};
 
-use block::Block;
+use refusal::End;
 
 // A line, counted from 1, and the position where it starts.
-#[derive(Clone, Copy)]
-pub(crate) struct Line {
+#[derive(Clone, Copy, PartialEq, Eq, Debug)]
+pub struct Line {
     pub number: usize,
     pub start: usize,
 }
 
-// The line of place `to`, from that of place `from`: one more for each line feed between. Place 0 stands at `base`.
-pub(crate) fn pass<B: Block>(line: Line, feeds: B, base: usize, from: usize, to: usize) -> Line
-    requires order { from ≤ to }
-    requires seen { to ≤ answered B.places }
-    requires far { base ≤ farthest }
-    requires number { line.number ≤ base + from + 1 }
-    requires start { line.start ≤ base + from }
-    ensures number { result.number ≤ base + to + 1 }
-    ensures start { result.start ≤ base + to }
-    ensures counts { (t : ℕ → ℕ) → FeedsAt t base to (B.Block.row feeds) → Counted t line (base + from) → Counted t result (base + to) }
-{
-    let mut line = line;
-    let mut at = from;
-    while let Some(p) = feeds.first(at) {
-        if p >= to {
-            break;
+impl Line {
+    // The line at a recording's start.
+    pub const FIRST: Line = Line {
+        number: 1,
+        start: 0,
+    };
+}
+
+// A position of a recording, and the line in which it stands.
+#[derive(Clone, Copy, PartialEq, Eq, Debug)]
+pub struct Spot {
+    // How many bytes stand before it.
+    pub position: usize,
+    pub line: Line,
+    ghost counted: { line.number ≤ position + 1 },
+    ghost begun: { line.start ≤ position },
+}
+
+impl Spot {
+    // At a recording's start.
+    pub fn first() -> Spot
+        ensures position { result.position ≡ 0 }
+        ensures number { result.line.number ≡ 1 }
+        ensures start { result.line.start ≡ 0 }
+    {
+        Spot {
+            position: 0,
+            line: Line::FIRST,
         }
-        line = Line {
-            number: line.number + 1,
-            start: base + p + 1,
-        };
-        at = p + 1;
     }
-    line
+
+    // The end that stands here, where one does.
+    pub fn end(self) -> End
+        ensures { result ≡ record { line = self.line.number; column = self.position - self.line.start; position = self.position } }
+    {
+        End {
+            line: self.line.number,
+            column: self.position - self.line.start,
+            position: self.position,
+        }
+    }
 }

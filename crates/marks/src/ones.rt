@@ -1,9 +1,43 @@
-// Blocks that hold a one at a single place, or at all places below one.
-ghost use Rattle.std.specs.Prelude.{◌≡◌, ◌<◌, ◌≤◌, min, nat_eq, nat_lt};
+// The ones of a block, one after the other, and blocks that hold a one at a single place, or at all places below one.
+ghost use Rattle.std.specs.Prelude.{◌≡◌, ◌-◌, ◌<◌, ◌≤◌, min, nat_eq, nat_lt};
+ghost use Rattle.std.specs.Iterator.{at_most};
 ghost use Rattle.block.specs.Rows.{tab};
 ghost use Rattle.block.specs.Calls.{widest, answered, none_row};
+ghost use Rattle.marks.specs.Ones.{StepsOn};
 
 use block::Block;
+
+// The places of a block's ones from `from` on and before `to`, in order.
+#[derive(Clone, Copy)]
+pub(crate) struct Ones<B> {
+    block: B,
+    from: usize,
+    to: usize,
+}
+
+pub(crate) fn ones_between<B: Block>(block: B, from: usize, to: usize) -> Ones<B>
+    ensures { result ≡ record { block = block; from = from; to = to } }
+{
+    Ones { block, from, to }
+}
+
+impl<B: Block> Iterator for Ones<B> {
+    type Item = usize;
+
+    ghost next_gives = { StepsOn B.Block.row (answered B.places) };
+
+    ghost remaining = { λ s. at_most (s.to - s.from) };
+
+    fn next(&mut self) -> Option<usize> {
+        match self.block.first(self.from) {
+            Some(p) if p < self.to => {
+                self.from = p + 1;
+                Some(p)
+            }
+            _ => None,
+        }
+    }
+}
 
 // A one at place `p` and nowhere else; all zeros where `p` is not below the answered width.
 pub fn one<B: Block>(p: usize) -> B

@@ -8,6 +8,13 @@ ghost use Rattle.program.specs.Falls.{ProgramEnds, StepsFall};
 ghost use Rattle.program.specs.Matched.{FirstStanding, FormBlock, LineStarts};
 ghost use Rattle.program.specs.Sizes.{FormCarries, FormClassed, FormDepth, FormRows};
 
+// The rows by number: those of the line feeds and of the line starts, and that of the first class. Rows before them keep marks.
+pub const FEEDS: usize = 16;
+
+pub const STARTS: usize = FEEDS + 1;
+
+pub const CLASSES: usize = STARTS + 1;
+
 // `class` and the number of a step name rows, and `carry` names a carry.
 #[derive(Clone, Copy)]
 pub enum Step {

@@ -16,7 +16,7 @@ use Rattle.std.proofs.lemmas.List.{length_push, length-append, length-take, leng
 use Rattle.tree.specs.declared.node.Range.{Range}
 use Rattle.tree.specs.declared.store.Tree.{Tree}
 use Rattle.tree.specs.Stands.{nodes_of, bytes_of, ranges_of, item, Pushed, Quoted}
-use Rattle.reader.specs.Reading.{Between, Room, Added, CountRead, CountsRead, ItemRead, ItemsRead, HeadedRead, FormRead, SingleRead, ListRead, SomeRead}
+use Rattle.reader.specs.Reading.{Between, RoomAt, Added, CountRead, CountsRead, ItemRead, ItemsRead, HeadedRead, FormRead, SingleRead, ListRead, SomeRead}
 
 -- the token that a pattern has found
 pub as_open : (x : List ℕ) (p s e : ℕ) (t : Token) → t ≡ token.Open → Next t x p s e → Lexes x p opening s e
@@ -70,22 +70,22 @@ quote_long {x} {s = s} l =
     omega (arith, l.skips.rises, l.token.to, r.rises, r.within, simp (length-take, length-drop) at (ap length l.token.text))
 
 -- room
-pub room_on : {x y : List ℕ} {p q : ℕ} {t : Tree} → Room x t p → y ≡ x → p ≤ q → Room y t q
+pub room_on : {x y : List ℕ} {p q : ℕ} {t : Tree} → RoomAt x t p → y ≡ x → p ≤ q → RoomAt y t q
 room_on r same h =
     record { short = omega (arith, ap length same, r.short); nodes = omega (arith, r.nodes); bytes = omega (arith, r.bytes); ranges = omega (arith, r.ranges) }
 
-pub room_added : {x y : List ℕ} {p q less : ℕ} {t u : Tree} → Room x t p → Added p q less t u → y ≡ x → Room y u q
+pub room_added : {x y : List ℕ} {p q less : ℕ} {t u : Tree} → RoomAt x t p → Added p q less t u → y ≡ x → RoomAt y u q
 room_added r a same =
     record { short = omega (arith, ap length same, r.short); nodes = omega (arith, r.nodes, a.nodes); bytes = a.bytes; ranges = a.ranges }
 
-pub room_push : {x y : List ℕ} {p q : ℕ} {t u : Tree} → Room x t p → Added p q 1 t u → y ≡ x → q ≤ length y → length (nodes_of u) < longest
+pub room_push : {x y : List ℕ} {p q : ℕ} {t u : Tree} → RoomAt x t p → Added p q 1 t u → y ≡ x → q ≤ length y → length (nodes_of u) < longest
 room_push r a same h = omega (arith, ap length same, r.short, r.nodes, a.nodes)
 
 added_after : {p m q less : ℕ} {t u : Tree} → p < m → Added m q less t u → Added p q 1 t u
 added_after h a =
     record { grows = a.grows; on = omega (arith, a.on); nodes = omega (arith, a.nodes); bytes = a.bytes; ranges = a.ranges }
 
-added_none : {x : List ℕ} {p q : ℕ} (t : Tree) → Room x t p → p < q → Added p q 1 t t
+added_none : {x : List ℕ} {p q : ℕ} (t : Tree) → RoomAt x t p → p < q → Added p q 1 t t
 added_none t r h =
     record { grows = grows_same t t (record { nodes = refl; bytes = refl; ranges = refl }); on = h; nodes = omega arith; bytes = omega (arith, r.bytes); ranges = omega (arith, r.ranges) }
 
@@ -107,7 +107,7 @@ module _ {x y : List ℕ} {p s m : ℕ} {w : List ℕ} (l : Lexes x p (word w) s
       let g = b us r (subst (λ u. Tokens u us q r) (sym same) k) in
       (word w ∷ g.0, (s, m, l, subst (λ u. Tokens u g.0 m r) same g.1), (g.0, ap (λ u. word u ∷ g.0) e, g.2))
 
-  items_added : {q : ℕ} {t u : Tree} {kept : List Range} → Room x t p → ItemsRead y m q t u kept → Added p q 1 t u
+  items_added : {q : ℕ} {t u : Tree} {kept : List Range} → RoomAt x t p → ItemsRead y m q t u kept → Added p q 1 t u
   items_added {q} {t} {u} {kept} r b =
       record {
         grows = grows_ranged t u kept b.nodes b.bytes b.ranges;
@@ -117,7 +117,7 @@ module _ {x y : List ℕ} {p s m : ℕ} {w : List ℕ} (l : Lexes x p (word w) s
         ranges = b.room;
       }
 
-  pub set_read : {q d a e : ℕ} {t u : Tree} {first : Range} {kept : List Range} → w ≡ name head.Set → Room x t p → ItemsRead y m q t u (first ∷ kept) → a ≡ length (ranges_of t) → e ≡ length (ranges_of u) → HeadedRead x p q d t u (node.Set a e)
+  pub set_read : {q d a e : ℕ} {t u : Tree} {first : Range} {kept : List Range} → w ≡ name head.Set → RoomAt x t p → ItemsRead y m q t u (first ∷ kept) → a ≡ length (ranges_of t) → e ≡ length (ranges_of u) → HeadedRead x p q d t u (node.Set a e)
   set_read {a = a} {e = e} {t = t} {u = u} {first = first} {kept = kept} is r b from to =
       record {
         form = set (map item (first ∷ kept));
@@ -126,7 +126,7 @@ module _ {x y : List ℕ} {p s m : ℕ} {w : List ℕ} (l : Lexes x p (word w) s
         added = items_added r b;
       }
 
-  pub out_read : {q d a e : ℕ} {t u : Tree} {kept : List Range} → w ≡ name head.Out → Room x t p → ItemsRead y m q t u kept → a ≡ length (ranges_of t) → e ≡ length (ranges_of u) → HeadedRead x p q d t u (node.Out a e)
+  pub out_read : {q d a e : ℕ} {t u : Tree} {kept : List Range} → w ≡ name head.Out → RoomAt x t p → ItemsRead y m q t u kept → a ≡ length (ranges_of t) → e ≡ length (ranges_of u) → HeadedRead x p q d t u (node.Out a e)
   out_read {a = a} {e = e} {t = t} {u = u} {kept = kept} is r b from to =
       record {
         form = out (map item kept);
@@ -179,7 +179,7 @@ module _ {x y : List ℕ} {p s m : ℕ} {w : List ℕ} (l : Lexes x p (word w) s
   bare_tokens : {q z : ℕ} (v : List ℕ) → w ≡ v → Lexes y m closing z q → (us : List Tok) (r : ℕ) → Tokens x us q r → (ts : List Tok) × Tokens x ts p r × (opening ∷ ts ≡ opening ∷ word v ∷ closing ∷ us)
   bare_tokens {q} {z} v e c us r k = (word w ∷ closing ∷ us, (s, m, l, (z, q, subst (λ u. Lexes u m closing z q) same c, k)), ap (λ u. opening ∷ word u ∷ closing ∷ us) e)
 
-  pub start_read : {q d z : ℕ} (t : Tree) → w ≡ name head.Start → Room x t p → Lexes y m closing z q → HeadedRead x p q d t t node.Start
+  pub start_read : {q d z : ℕ} (t : Tree) → w ≡ name head.Start → RoomAt x t p → Lexes y m closing z q → HeadedRead x p q d t t node.Start
   start_read t is r c =
       record {
         form = start;
@@ -188,7 +188,7 @@ module _ {x y : List ℕ} {p s m : ℕ} {w : List ℕ} (l : Lexes x p (word w) s
         added = added_none t r (omega (arith, word_on l, shut_on c));
       }
 
-  pub end_read : {q d z : ℕ} (t : Tree) → w ≡ name head.End → Room x t p → Lexes y m closing z q → HeadedRead x p q d t t node.End
+  pub end_read : {q d z : ℕ} (t : Tree) → w ≡ name head.End → RoomAt x t p → Lexes y m closing z q → HeadedRead x p q d t t node.End
   end_read t is r c =
       record {
         form = end;
@@ -197,7 +197,7 @@ module _ {x y : List ℕ} {p s m : ℕ} {w : List ℕ} (l : Lexes x p (word w) s
         added = added_none t r (omega (arith, word_on l, shut_on c));
       }
 
-pub nil_read : {x : List ℕ} {p s q d i : ℕ} {t u : Tree} → Room x t p → Lexes x p closing s q → Pushed t u node.Nil i → ListRead x p q d t u i
+pub nil_read : {x : List ℕ} {p s q d i : ℕ} {t u : Tree} → RoomAt x t p → Lexes x p closing s q → Pushed t u node.Nil i → ListRead x p q d t u i
 nil_read {t = t} {u = u} r l w =
     record { forms = nil; stand = pushed_nil t u _ w; reads = λ us f k. (closing ∷ us, (_, _, l, k), refl); added = added_push (added_none t r (shut_on l)) w }
 
@@ -231,19 +231,19 @@ single_read {x} {y} {p} {q} {r} {s} {d} {i} {t} {u} a same l =
       added = record { grows = n.grows; on = omega (arith, n.on, shut_on l); nodes = omega (arith, n.nodes, shut_on l); bytes = omega (arith, n.bytes, shut_on l); ranges = omega (arith, n.ranges, shut_on l) };
     }
 
-pub open_read : {x y : List ℕ} {p s m q d i : ℕ} {t u v : Tree} {n : Node} → Lexes x p opening s m → y ≡ x → HeadedRead y m q (d + 1) t u n → d < deepest → Pushed u v n i → FormRead x p q d t v i
-open_read {x} {y} {p} {s} {m} {q} {d} {i} {t} {u} {v} {n} l same b h w =
+pub open_read : {x y : List ℕ} {p s m q d e i : ℕ} {t u v : Tree} {n : Node} → Lexes x p opening s m → y ≡ x → e ≡ d + 1 → HeadedRead y m q e t u n → d < deepest → Pushed u v n i → FormRead x p q d t v i
+open_read {x} {y} {p} {s} {m} {q} {d} {e} {i} {t} {u} {v} {n} l same at b h w =
     let a = b.added in
     record {
       form = b.form;
       stands = pushed_stands u v b.form n i w b.holds;
       reads = λ us f k.
-          let g = b.reads d refl h us f (subst (λ c. Tokens c us q f) (sym same) k) in
+          let g = b.reads d at h us f (subst (λ c. Tokens c us q f) (sym same) k) in
           (opening ∷ g.0, (s, m, l, subst (λ c. Tokens c g.0 m f) same g.1), g.2);
       added = added_push (record { grows = a.grows; on = omega (arith, a.on, open_on l); nodes = omega (arith, a.nodes, open_on l); bytes = a.bytes; ranges = a.ranges }) w;
     }
 
-pub quote_read : {x : List ℕ} {p s m d i : ℕ} {t u v : Tree} {n : Node} {q : List ℕ} → Room x t p → Lexes x p (quote q) s m → Quoted t u q n → Pushed u v n i → FormRead x p m d t v i
+pub quote_read : {x : List ℕ} {p s m d i : ℕ} {t u v : Tree} {n : Node} {q : List ℕ} → RoomAt x t p → Lexes x p (quote q) s m → Quoted t u q n → Pushed u v n i → FormRead x p m d t v i
 quote_read {t = t} {u = u} {v = v} {n = n} {q = q} r l k w =
     record {
       form = quoted q;

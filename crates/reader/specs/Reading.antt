@@ -2,8 +2,14 @@
 use Rattle.std.specs.Prelude.{◌≡◌, ℕ, ◌+◌, ◌<◌, ◌≤◌, true, List, ◌∷◌, ◌++◌, map, length, Some}
 use Rattle.form.specs.Form.{Form, Forms, cons}
 use Rattle.lexer.specs.Tokens.{Tok, opening, closing, word, Tokens}
+use Rattle.lexer.specs.declared.Lexer.{Lexer}
+use Rattle.lexer.specs.Places.{text_of, place_of}
 use Rattle.grammar.specs.Words.{item_of, number_of}
 use Rattle.grammar.specs.Grammar.{deepest, largest, ItemsAt, FormAt, FormsAt}
+use Rattle.grammar.proofs.Wants.{Want}
+use Rattle.grammar.proofs.Refusals.{Refused}
+use Rattle.reader.specs.Faults.{verdict}
+use Rattle.reader.specs.declared.fault.FormFault.{FormFault}
 use Rattle.tree.specs.declared.node.Node.{Node}
 use Rattle.tree.specs.declared.node.Range.{Range}
 use Rattle.tree.specs.declared.store.Tree.{Tree}
@@ -15,11 +21,23 @@ abbrev pub Between : (List Tok → List Tok → Type 0) → List ℕ → ℕ →
 Between P x p q = (us : List Tok) (r : ℕ) → Tokens x us q r → (ts : List Tok) × Tokens x ts p r × P ts us
 
 -- what the tree t holds is no more than the p bytes read so far can ask for
-pub record Room (x : List ℕ) (t : Tree) (p : ℕ) : Type 0 where
+pub record RoomAt (x : List ℕ) (t : Tree) (p : ℕ) : Type 0 where
   pub short : length x ≤ longest
   pub nodes : length (nodes_of t) ≤ p
   pub bytes : length (bytes_of t) ≤ p
   pub ranges : length (ranges_of t) ≤ p
+
+-- the same of a lexer that has read so far
+abbrev pub Room : Lexer → Tree → Type 0
+Room l t = RoomAt (text_of l) t (place_of l)
+
+-- what P says of a lexer's text, from where it was to where it is
+abbrev pub Over {ℓ} : {A : Type ℓ} → (List ℕ → ℕ → ℕ → A) → Lexer → Lexer → A
+Over P l m = P (text_of l) (place_of l) (place_of m)
+
+-- the text is refused for the fault e at the lexer's place, where the wants ws are next, whatever is wanted behind them
+abbrev pub Refuses : Lexer → List Want → FormFault → Type 0
+Refuses l ws e = (σ : List Want) → Refused (text_of l) (place_of l) (ws ++ σ) (verdict e)
 
 -- a number from m to the largest
 pub record CountRead (x : List ℕ) (p q m n : ℕ) : Type 0 where

@@ -1,62 +1,57 @@
 // Forms and lists of forms, which hold each other.
-ghost use Rattle.std.specs.Prelude.{◌≡◌, ℕ, ◌≤◌, List, ◌∷◌, MatchResult};
-ghost use Rattle.grammar.proofs.Refusals.{Refused};
-ghost use Rattle.grammar.proofs.Wants.{Want, form as form_wanted, forms, heading, shut};
-ghost use Rattle.grammar.specs.Grammar.{deepest};
-ghost use Rattle.lexer.specs.Places.{place_of, text_of};
-ghost use Rattle.reader.specs.Faults.{verdict};
-ghost use Rattle.reader.specs.Reading.{FormRead, HeadedRead, ListRead, Room, SingleRead, SomeRead};
+ghost use Rattle.std.specs.Prelude.{◌≡◌, [], ◌∷◌, MatchResult};
+ghost use Rattle.grammar.proofs.Wants.{form as form_wanted, forms, heading, shut};
+ghost use Rattle.lexer.specs.Places.{text_of};
+ghost use Rattle.reader.specs.Reading.{FormRead, HeadedRead, ListRead, Over, Refuses, Room, SingleRead, SomeRead};
 
+use crate::depth::Depth;
 use crate::fault::FormFault;
 use crate::items::{items, some_items};
-use crate::words::{close, counts, word};
+use crate::words::{close, counts, unexpected, word};
 use grammar::{Head, named};
 use lexer::{Lexer, Token};
 use tree::node::Node;
 use tree::store::Tree;
 
-// How deep brackets nest at most.
-const DEEPEST: u8 = 16;
-
-// One form, inside `depth` brackets; its node's index.
+// One form, inside `depth` brackets; its node's index. The functions that hand the lexer and the tree on to each other are no
+// methods of a struct of the two: no ghost field can stand beside mutable references, so each clause would stay, and reach what it
+// speaks of through one name more.
 #[cycle(form_headed_list_single_some)]
-fn form(lexer: &mut Lexer, tree: &mut Tree, depth: u8) -> Result<usize, FormFault>
-    requires { (Room (text_of lexer.old) tree.old (place_of lexer.old)) × (depth ≤ deepest) }
+fn form(lexer: &mut Lexer, tree: &mut Tree, depth: Depth) -> Result<usize, FormFault>
+    requires { Room lexer.old tree.old }
     ensures same { text_of lexer.new ≡ text_of lexer.old }
     ensures reads { MatchResult result
-        (λ i. FormRead (text_of lexer.old) (place_of lexer.old) (place_of lexer.new) depth tree.old tree.new i)
-        (λ e. (σ : List Want) → Refused (text_of lexer.old) (place_of lexer.old) (form_wanted depth ∷ σ) (verdict e)) }
+        (λ i. Over FormRead lexer.old lexer.new depth.brackets tree.old tree.new i)
+        (Refuses lexer.old (form_wanted depth.brackets ∷ [])) }
 {
     match lexer.next()? {
         Token::Open => {
-            if depth >= DEEPEST {
-                return Err(FormFault::TooDeep { at: lexer.start() });
-            }
-            let node = headed(lexer, tree, depth + 1)?;
+            let deeper = depth
+                .deeper()
+                .ok_or(FormFault::TooDeep { at: lexer.start() })?;
+            let node = headed(lexer, tree, deeper)?;
             Ok(tree.push(node).unwrap())
         }
         Token::Quote(q) => {
             let node = tree.quote(q).unwrap();
             Ok(tree.push(node).unwrap())
         }
-        _ => Err(FormFault::Unexpected { at: lexer.start() }),
+        _ => Err(unexpected(lexer)),
     }
 }
 
 // What follows an opening bracket, the `depth`th; a node that is yet to be added.
 #[cycle(form_headed_list_single_some)]
-fn headed(lexer: &mut Lexer, tree: &mut Tree, depth: u8) -> Result<Node, FormFault>
-    requires { (Room (text_of lexer.old) tree.old (place_of lexer.old)) × (depth ≤ deepest) }
+fn headed(lexer: &mut Lexer, tree: &mut Tree, depth: Depth) -> Result<Node, FormFault>
+    requires { Room lexer.old tree.old }
     ensures same { text_of lexer.new ≡ text_of lexer.old }
     ensures reads { MatchResult result
-        (λ n. HeadedRead (text_of lexer.old) (place_of lexer.old) (place_of lexer.new) depth tree.old tree.new n)
-        (λ e. (σ : List Want) → Refused (text_of lexer.old) (place_of lexer.old) (heading depth ∷ σ) (verdict e)) }
+        (λ n. Over HeadedRead lexer.old lexer.new depth.brackets tree.old tree.new n)
+        (Refuses lexer.old (heading depth.brackets ∷ [])) }
 {
     let w = word(lexer)?;
-    let Some(h) = named(w) else {
-        return Err(FormFault::Unexpected { at: lexer.start() });
-    };
-    match h {
+    let head = named(w).ok_or(unexpected(lexer))?;
+    match head {
         Head::Set => {
             let from = tree.ranges_len();
             some_items(lexer, tree)?;
@@ -103,12 +98,12 @@ fn headed(lexer: &mut Lexer, tree: &mut Tree, depth: u8) -> Result<Node, FormFau
 
 // One form and the closing bracket behind it.
 #[cycle(form_headed_list_single_some)]
-pub(crate) fn single(lexer: &mut Lexer, tree: &mut Tree, depth: u8) -> Result<usize, FormFault>
-    requires { (Room (text_of lexer.old) tree.old (place_of lexer.old)) × (depth ≤ deepest) }
+pub(crate) fn single(lexer: &mut Lexer, tree: &mut Tree, depth: Depth) -> Result<usize, FormFault>
+    requires { Room lexer.old tree.old }
     ensures same { text_of lexer.new ≡ text_of lexer.old }
     ensures reads { MatchResult result
-        (λ i. SingleRead (text_of lexer.old) (place_of lexer.old) (place_of lexer.new) depth tree.old tree.new i)
-        (λ e. (σ : List Want) → Refused (text_of lexer.old) (place_of lexer.old) (form_wanted depth ∷ shut ∷ σ) (verdict e)) }
+        (λ i. Over SingleRead lexer.old lexer.new depth.brackets tree.old tree.new i)
+        (Refuses lexer.old (form_wanted depth.brackets ∷ shut ∷ [])) }
 {
     let part = form(lexer, tree, depth)?;
     close(lexer)?;
@@ -117,12 +112,12 @@ pub(crate) fn single(lexer: &mut Lexer, tree: &mut Tree, depth: u8) -> Result<us
 
 // The forms up to the closing bracket.
 #[cycle(form_headed_list_single_some)]
-fn list(lexer: &mut Lexer, tree: &mut Tree, depth: u8) -> Result<usize, FormFault>
-    requires { (Room (text_of lexer.old) tree.old (place_of lexer.old)) × (depth ≤ deepest) }
+fn list(lexer: &mut Lexer, tree: &mut Tree, depth: Depth) -> Result<usize, FormFault>
+    requires { Room lexer.old tree.old }
     ensures same { text_of lexer.new ≡ text_of lexer.old }
     ensures reads { MatchResult result
-        (λ i. ListRead (text_of lexer.old) (place_of lexer.old) (place_of lexer.new) depth tree.old tree.new i)
-        (λ e. (σ : List Want) → Refused (text_of lexer.old) (place_of lexer.old) (forms depth ∷ σ) (verdict e)) }
+        (λ i. Over ListRead lexer.old lexer.new depth.brackets tree.old tree.new i)
+        (Refuses lexer.old (forms depth.brackets ∷ [])) }
 {
     if lexer.closes() {
         return Ok(tree.push(Node::Nil).unwrap());
@@ -132,12 +127,12 @@ fn list(lexer: &mut Lexer, tree: &mut Tree, depth: u8) -> Result<usize, FormFaul
 
 // One form or more, up to the closing bracket.
 #[cycle(form_headed_list_single_some)]
-fn some(lexer: &mut Lexer, tree: &mut Tree, depth: u8) -> Result<usize, FormFault>
-    requires { (Room (text_of lexer.old) tree.old (place_of lexer.old)) × (depth ≤ deepest) }
+fn some(lexer: &mut Lexer, tree: &mut Tree, depth: Depth) -> Result<usize, FormFault>
+    requires { Room lexer.old tree.old }
     ensures same { text_of lexer.new ≡ text_of lexer.old }
     ensures reads { MatchResult result
-        (λ i. SomeRead (text_of lexer.old) (place_of lexer.old) (place_of lexer.new) depth tree.old tree.new i)
-        (λ e. (σ : List Want) → Refused (text_of lexer.old) (place_of lexer.old) (form_wanted depth ∷ forms depth ∷ σ) (verdict e)) }
+        (λ i. Over SomeRead lexer.old lexer.new depth.brackets tree.old tree.new i)
+        (Refuses lexer.old (form_wanted depth.brackets ∷ forms depth.brackets ∷ [])) }
 {
     let head = form(lexer, tree, depth)?;
     let tail = list(lexer, tree, depth)?;

@@ -12,6 +12,7 @@ use crate::fault::FormFault;
 use crate::whole::whole;
 use tree::store::{LONGEST, Tree};
 
+mod depth;
 pub mod fault;
 mod forms;
 mod items;

@@ -1,5 +1,5 @@
 // A place where the character is complete.
-#[derive(Clone, Copy, PartialEq, Eq, Debug)]
+#[derive(Clone, Copy, Debug, Default, PartialEq, Eq)]
 pub struct End {
     // The line, counted from 1.
     pub line: usize,

@@ -1,7 +1,10 @@
 -- The laws of decimals.
-use Rattle.std.proofs.Common.{◌≡◌, ℕ, zero, suc, ◌+◌, ◌-◌, ◌*◌, ◌/◌, ◌%◌, ◌^◌, ◌<◌, ◌≤◌, ltb, List, [], ◌∷◌, ◌++◌, length, get_or, sym, refl, ◌∙◌, ⊎_elim, pow-suc, add-one, arith}
+use Rattle.std.proofs.Common.{◌≡◌, ℕ, zero, suc, ◌+◌, ◌-◌, ◌*◌, ◌/◌, ◌%◌, ◌^◌, ◌<◌, ◌≤◌, ltb, List, [], ◌∷◌, ◌++◌, length, get_or, sym, refl, ap, ◌∙◌, ⊎_elim, add-one, arith}
+use Rattle.std.specs.Fmt as Fmt
 use Rattle.report.specs.Decimals.{digits, decimal, read_on, DecimalsWrite}
-use Rattle.std.proofs.lemmas.List.{length_push, get_or_append_left, get_or_push}
+use Rattle.std.proofs.lemmas.Fmt.{decimal_by_steps}
+use Rattle.std.proofs.lemmas.List.{length_push}
+use Rattle.std.proofs.lemmas.Grind.{common_steps}
 use Rattle.std.proofs.lemmas.Bool.{cond-true, cond-false, lt-ltb, le-ltb, cases_lt}
 
 digits_one : (most n : ℕ) → n < 10 → digits (suc most) n ≡ (48 + n) ∷ []
@@ -21,11 +24,11 @@ digits_enough (suc m) (suc k) n h l =
     (λ b. let e = digits_enough m k (n / 10) (omega arith) (omega arith) in rw (digits_more m n b, digits_more k n b, e))
     (cases_lt n 10)
 
-pub decimal_one : (n : ℕ) → n < 10 → decimal n ≡ (48 + n) ∷ []
+decimal_one : (n : ℕ) → n < 10 → decimal n ≡ (48 + n) ∷ []
 unfolding decimal
 decimal_one n h = rw add-one (digits_one n n h)
 
-pub decimal_more : (n : ℕ) → 10 ≤ n → decimal n ≡ decimal (n / 10) ++ ((48 + n % 10) ∷ [])
+decimal_more : (n : ℕ) → 10 ≤ n → decimal n ≡ decimal (n / 10) ++ ((48 + n % 10) ∷ [])
 unfolding decimal
 decimal_more n h = rw (add-one n, digits_more n n h, digits_enough n (n / 10 + 1) (n / 10) (omega arith) (omega arith))
 
@@ -41,24 +44,11 @@ module _ (P : ℕ → List ℕ → Type 0) (one : (n : ℕ) → n < 10 → P n (
   by_tenths : (n : ℕ) → P n (decimal n)
   by_tenths n = below (n + 1) n (omega arith)
 
-pub length_more : (n : ℕ) → 10 ≤ n → length (decimal n) ≡ length (decimal (n / 10)) + 1
-length_more n h = rw (decimal_more n h) (length_push (decimal (n / 10)) (48 + n % 10))
-
-pub length_one : (n : ℕ) → n < 10 → length (decimal n) ≡ 1
-length_one n h = rw (decimal_one n h)
-
-pub length_some : (n : ℕ) → 0 < length (decimal n)
-length_some n = by_tenths (λ _ ds. 0 < length ds) (λ n h. omega arith) (λ n ds h some. omega (arith, length_push ds (48 + n % 10))) n
-
-length_le : (k n : ℕ) → n < 10 ^ suc k → length (decimal n) ≤ suc k
-length_le zero n h = omega (arith, length_one n h)
-length_le (suc k) n h =
-    ⊎_elim (λ s. omega (arith, length_one n s))
-    (λ b. omega (arith, length_more n b, length_le k (n / 10) (omega (arith, pow-suc 10 (suc k))))) (cases_lt n 10)
-
--- the most digits of a number of 64 bits
-pub length_most : (n : ℕ) → n < 2 ^ 64 → length (decimal n) ≤ 20
-length_most n h = length_le 19 n (omega arith)
+-- what std's integers are printed as
+pub same_decimal : (n : ℕ) → n < 2 ^ 64 → Fmt.decimal n ≡ decimal n
+same_decimal =
+    decimal_by_steps (λ n ds. ds ≡ decimal n) (λ n l. sym (decimal_one n l))
+    (λ n ds l e. ap (λ front. front ++ ((48 + n % 10) ∷ [])) e ∙ sym (decimal_more n l))
 
 read_on_push : (before : ℕ) (ds : List ℕ) (d : ℕ) → read_on before (ds ++ (d ∷ [])) ≡ read_on before ds * 10 + (d - 48)
 read_on_push before [] d = refl
@@ -74,20 +64,13 @@ record Spells (n : ℕ) (ds : List ℕ) : Type 0 where
 
 spells_one : (n : ℕ) → n < 10 → Spells n ((48 + n) ∷ [])
 spells_one n h =
-    record { some = omega arith; digit = λ k l. let e : k ≡ 0 = omega arith in rw e (omega arith, omega arith); first = λ p. omega arith; long = λ l. absurd (omega arith); reads = omega arith }
-
-digit_push : (ds : List ℕ) (d : ℕ) → ((k : ℕ) → k < length ds → (48 ≤ get_or ds k 0) × (get_or ds k 0 < 58)) → d < 10
-    → (k : ℕ) → k < length (ds ++ ((48 + d) ∷ [])) → (48 ≤ get_or (ds ++ ((48 + d) ∷ [])) k 0) × (get_or (ds ++ ((48 + d) ∷ [])) k 0 < 58)
-digit_push ds d was h k l =
-    ⊎_elim (λ s. rw (get_or_append_left ds ((48 + d) ∷ []) 0 k s) (was k s))
-    (λ (b : length ds ≤ k). let e : length ds ≡ k = omega (arith, length_push ds (48 + d)) in rw (get_or_push ds (48 + d) 0 k e) (omega arith, omega arith))
-    (cases_lt k (length ds))
+    record { some = omega arith; digit = λ k l. grind (arith, common_steps); first = λ p. omega arith; long = λ l. absurd (omega arith); reads = omega arith }
 
 spells_more : (n : ℕ) (ds : List ℕ) → 10 ≤ n → Spells (n / 10) ds → Spells n (ds ++ ((48 + n % 10) ∷ []))
 spells_more n ds h was = record {
   some = omega (arith, length_push ds (48 + n % 10));
-  digit = digit_push ds (n % 10) was.digit (omega arith);
-  first = λ _. rw (get_or_append_left ds ((48 + n % 10) ∷ []) 0 0 was.some) (was.first (omega arith));
+  digit = λ k l. grind (arith, common_steps, was.digit);
+  first = λ _. grind (arith, common_steps, was.first, was.some);
   long = λ _. omega arith;
   reads = omega (arith, read_on_push 0 ds (48 + n % 10), was.reads);
 }

@@ -1,3 +1,1 @@
 mod Decimals
-mod Lines
-mod Overwritten

@@ -6,7 +6,8 @@ unfoldable pub digits : ℕ → ℕ → List ℕ
 digits zero n = []
 digits (suc most) n = cond (nat_lt n 10) ((48 + n) ∷ []) (digits most (n / 10) ++ ((48 + n % 10) ∷ []))
 
--- n in decimal, which has at most n + 1 digits
+-- n in decimal, which has at most n + 1 digits. It is defined for every number; std's word for what an integer prints, with which
+-- it agrees below 2 ^ 64, stops at 64 digits.
 unfoldable pub decimal : ℕ → List ℕ
 decimal n = digits (n + 1) n
 

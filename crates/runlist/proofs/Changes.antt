@@ -1,9 +1,11 @@
 -- Rows by their changes. Assumes nothing.
-use Rattle.std.proofs.Common.{◌≡◌, ℕ, zero, suc, ◌+◌, ◌%◌, ◌<◌, ◌≤◌, Bool, true, false, not, ◌&&◌, ◌||◌, eqb, leb, List, [], ◌∷◌, ◌++◌, length, get_or, take, drop, set, sym, refl, ap, ◌∙◌, subst, ap₂, subst₂, arith, take-append-drop, length-take-le, take-suc, take-suc-set, eq-eqb, ne_eqb, eqb-true, le-leb, leb-true}
-use mathlib.Core.Bool.{beq}
+use Rattle.std.proofs.Common.{◌≡◌, ℕ, zero, suc, ◌+◌, ◌%◌, ◌<◌, ◌≤◌, Bool, true, false, not, ◌&&◌, ◌||◌, eqb, leb, ltb, List, [], ◌∷◌, ◌++◌, length, get_or, take, drop, set, sym, refl, ap, ◌∙◌, subst, ap₂, subst₂, arith, take-append-drop, length-take-le, take-suc, take-suc-set, eq-eqb, ne_eqb, eqb-true, le-leb, leb-true}
 use native.Mathlib.Decide.{dec_lt}
 use lib.ListN.{get_or-eq_default}
-use borrow.Author.Tests.{lt-leb}
+use borrow.Author.Tests.{lt-leb, ltb-true, ltb-false}
+use Rattle.std.specs.List.{AllWithin}
+use Rattle.std.specs.List.Sorted.{IsPartitionedBy}
+use Rattle.std.proofs.lemmas.List.Sorted.{IsNonDecreasingBy-from_default, IsPartitionedBy-ltb}
 use Rattle.block.specs.Calls.{differ, enters}
 use Rattle.block.proofs.Rows.{wrong}
 use Rattle.runlist.specs.Changes.{odd, shown, rises, among, KeepsChanges}
@@ -82,6 +84,13 @@ rising_next k e n [] h up = absurd (omega arith)
 rising_next k e zero (x ∷ []) h up = up.1
 rising_next k e zero (x ∷ (y ∷ l)) h up = up.1.0
 rising_next k e (suc n) (x ∷ l) h up = rising_next (suc x) e n l (omega arith) up.1
+
+rising_mono : (k e i j : ℕ) (l : List ℕ) → i ≤ j → j < length l → Rising k e l → get_or l i e ≤ get_or l j e
+rising_mono k e i j [] h u up = absurd (omega arith)
+rising_mono k e zero zero (x ∷ l) h u up = omega arith
+rising_mono k e zero (suc j) (x ∷ l) h u up = omega (arith, rising_le (suc x) (get_or l j e) (take j l) (rising_cut (suc x) e j l (omega arith) up.1).0)
+rising_mono k e (suc i) zero (x ∷ l) h u up = absurd (omega arith)
+rising_mono k e (suc i) (suc j) (x ∷ l) h u up = rising_mono (suc x) e i j l (omega arith) (omega arith) up.1
 
 -- ---- bits
 
@@ -186,6 +195,22 @@ module _ (e : ℕ) (l : List ℕ) (up : rises 0 e l ≡ true) where
       let s : n + 1 ≡ suc n = omega arith in
       ap (λ m. rises 0 p (take m l)) s ∙ to_rises 0 p _ (rising_more 0 (suc (get_or l n e)) p (take (suc n) l) h (passed_more n (change_is n (omega arith))))
 
+  -- the changes that are before p are found by halving
+  pub partitioned : (p : ℕ) → IsPartitionedBy (λ y. ltb y p) l
+  partitioned p = IsPartitionedBy-ltb (λ y. y) l p (IsNonDecreasingBy-from_default (λ y. y) l e (λ i j h u. rising_mono 0 e i j l h u rise))
+
+  pub passed_before : (n p : ℕ) → n ≤ length l → p ≤ e → AllWithin (λ y. ltb y p ≡ true) l 0 n → rises 0 p (take n l) ≡ true
+  passed_before zero p h u below = le-leb 0 p (omega arith)
+  passed_before (suc n) p h u below =
+      let s : suc n ≡ n + 1 = omega arith in
+      ap (λ m. rises 0 p (take m l)) s ∙ pass_more n p (ltb-true _ p (below n e (omega arith) (omega arith))) u
+
+  pub next_behind : (n p : ℕ) → n ≤ length l → p ≤ e → AllWithin (λ y. ltb y p ≡ false) l n (length l) → p ≤ get_or l n e
+  next_behind n p h u behind = elim (dec_lt n (length l)) [
+    | yes v ↦ ltb-false _ p (behind n e (omega arith) v)
+    | no v ↦ let d : get_or l n e ≡ e = get_or-eq_default l e {n = n} (omega arith) in omega arith
+  ]
+
   -- the bit between the change that is passed and the next one
   pub run_bit : (n p j : ℕ) → n ≤ length l → rises 0 (p + 1) (take n l) ≡ true → p ≤ j → j < get_or l n e → shown l j ≡ odd n
   run_bit n p j within before low high =
@@ -273,15 +298,3 @@ module _ (xs : List ℕ) (n p q : ℕ) (b : Bool) (ys : List ℕ) (k : ℕ) (roo
         here = λ j u v. was j u ∙ e (omega arith);
         before = λ j u. refl;
       })
-
-pub differs : (x y : Bool) → not (beq x y) ≡ true → not x ≡ y
-differs true true e = wrong e
-differs true false e = refl
-differs false true e = refl
-differs false false e = wrong e
-
-pub agrees : (x y : Bool) → not (beq x y) ≡ false → x ≡ y
-agrees true true e = refl
-agrees true false e = wrong (sym e)
-agrees false true e = wrong (sym e)
-agrees false false e = refl

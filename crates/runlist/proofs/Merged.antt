@@ -2,8 +2,7 @@
 use Rattle.std.proofs.Common.{◌≡◌, ℕ, zero, suc, ◌+◌, ◌-◌, ◌<◌, ◌≤◌, Bool, true, false, ◌&&◌, ◌||◌, sym, refl, ap, ◌∙◌, arith}
 use native.Mathlib.Decide.{dec_lt}
 use Rattle.block.specs.Sums.{over}
-use Rattle.runlist.specs.declared.Op.{Op}
-use Rattle.runlist.specs.Merged.{gives}
+use Rattle.runlist.specs.Merged.{merged}
 
 -- the carry behind a place with the bits x and y
 abbrev pub carry : Bool → Bool → Bool → Bool
@@ -16,10 +15,6 @@ settled true false false = refl
 settled false true true = refl
 settled false true false = refl
 settled false false k = refl
-
--- what a merge gives at the place i
-abbrev pub out : Op → (ℕ → Bool) → (ℕ → Bool) → Bool → ℕ → Bool
-out op f g enter i = gives op (f i) (g i) (over f g enter i)
 
 pub over_none : (f g : ℕ → Bool) (enter : Bool) → enter ≡ over f g enter 0
 unfolding over
@@ -42,10 +37,10 @@ module _ (f g : ℕ → Bool) (enter : Bool) (p q : ℕ) (x y k : Bool)
   run_carry i h l = let s : suc (p + (i - suc p)) ≡ i = omega arith in sym (over_steps (i - suc p) (omega arith)) ∙ ap (over f g enter) s
 
   -- the bits that stand: old before the turn, mid with the place p, new with the places up to q
-  pub run_bits : (op : Op) (old mid new : ℕ → Bool) (first rest : Bool) → first ≡ gives op x y k → rest ≡ gives op x y (carry x y k)
+  pub run_bits : (op : Bool → Bool → Bool → Bool) (old mid new : ℕ → Bool) (first rest : Bool) → first ≡ op x y k → rest ≡ op x y (carry x y k)
       → ((j : ℕ) → p ≤ j → j < p + 1 → mid j ≡ first) → ((j : ℕ) → j < p → mid j ≡ old j)
       → ((j : ℕ) → p + 1 ≤ j → j < q → new j ≡ rest) → ((j : ℕ) → j < p + 1 → new j ≡ mid j)
-      → p < q → ((j : ℕ) → j < p → old j ≡ out op f g enter j) → (j : ℕ) → j < q → new j ≡ out op f g enter j
+      → p < q → ((j : ℕ) → j < p → old j ≡ merged op f g enter j) → (j : ℕ) → j < q → new j ≡ merged op f g enter j
   run_bits op old mid new first rest e r here before next stays lt known j h =
       elim (dec_lt j p) [
         | yes u ↦ stays j (omega arith) ∙ before j u ∙ known j u
@@ -53,9 +48,9 @@ module _ (f g : ℕ → Bool) (enter : Bool) (p q : ℕ) (x y k : Bool)
           | yes v ↦
               let s : p ≡ j = omega arith in
               stays j v ∙ here j (omega arith) v ∙ e
-              ∙ (λ z. gives op (sym (fx j (omega arith) h) z) (sym (gy j (omega arith) h) z) ((ek ∙ ap (over f g enter) s) z))
+              ∙ (λ z. op (sym (fx j (omega arith) h) z) (sym (gy j (omega arith) h) z) ((ek ∙ ap (over f g enter) s) z))
           | no v ↦
               next j (omega arith) h ∙ r
-              ∙ (λ z. gives op (sym (fx j (omega arith) h) z) (sym (gy j (omega arith) h) z) (run_carry j (omega arith) (omega arith) z))
+              ∙ (λ z. op (sym (fx j (omega arith) h) z) (sym (gy j (omega arith) h) z) (run_carry j (omega arith) (omega arith) z))
         ]
       ]

@@ -1,17 +1,15 @@
 -- The rows that the calls owe, from the bits of the changes. Assumes nothing.
-use Rattle.std.proofs.Common.{◌≡◌, ℕ, zero, suc, ◌+◌, ◌*◌, ◌<◌, ◌≤◌, Bool, true, false, Some, None, sym, ◌∙◌, inl, inr, arith}
+use Rattle.std.proofs.Common.{◌≡◌, ℕ, zero, suc, ◌+◌, ◌*◌, ◌<◌, ◌≤◌, Bool, Some, None, Option, sym, ◌∙◌, inl, inr, arith}
 use native.Mathlib.Decide.{dec_lt}
 use Rattle.block.specs.Rows.{bit, tab, bit_of}
-use Rattle.block.specs.Calls.{enters, Add, Served, Put, Read, Least}
+use Rattle.block.specs.Calls.{differ, enters, Add, Served, Put, Read, Least}
 use Rattle.block.specs.Sums.{over}
 use Rattle.block.proofs.Rows.{bit_tab, bit_past, tab_ext, length-tab}
 use Rattle.block.proofs.Sums.{over_ext, sums_agree_lem}
-use Rattle.runlist.specs.declared.Op.{Op}
-use Rattle.runlist.specs.declared.Op.TheVariants.{Sum}
-use Rattle.runlist.specs.Merged.{gives}
-use Rattle.runlist.proofs.Merged.{out}
+use Rattle.runlist.specs.Changes.{Agree}
+use Rattle.runlist.specs.Merged.{merged}
 
-module _ (op : Op) (w : ℕ) (f g : ℕ → Bool) (enter : Bool) where
+module _ (op : Bool → Bool → Bool → Bool) (w : ℕ) (f g : ℕ → Bool) (enter : Bool) where
   left : (j : ℕ) → j < w → f j ≡ bit (tab w f) j
   left j l = sym (bit_tab w f j l)
 
@@ -21,13 +19,17 @@ module _ (op : Op) (w : ℕ) (f g : ℕ → Bool) (enter : Bool) where
   carry_row : (i : ℕ) → i ≤ w → over f g enter i ≡ over (bit (tab w f)) (bit (tab w g)) enter i
   carry_row i h = over_ext f g (bit (tab w f)) (bit (tab w g)) enter i (λ j u. left j (omega arith)) (λ j u. right j (omega arith))
 
-  pub row_merged : (s : ℕ → Bool) → ((i : ℕ) → i < w → s i ≡ out op f g enter i) → tab w s ≡ tab w (out op (bit (tab w f)) (bit (tab w g)) enter)
-  row_merged s e = tab_ext w s _ (λ i l. e i l ∙ (λ z. gives op (left i l z) (right i l z) (carry_row i (omega arith) z)))
+  pub row_merged : (s : ℕ → Bool) → Agree w s (merged op f g enter) → tab w s ≡ tab w (merged op (bit (tab w f)) (bit (tab w g)) enter)
+  row_merged s e = tab_ext w s _ (λ i l. e i l ∙ (λ z. op (left i l z) (right i l z) (carry_row i (omega arith) z)))
 
-pub row_sum : (w : ℕ) (f g : ℕ → Bool) (enter : Bool) (s : ℕ → Bool) (fallen : Bool) → ((i : ℕ) → i < w → s i ≡ out Sum f g enter i)
+-- what a sum makes of two bits and the carry
+abbrev pub total : Bool → Bool → Bool → Bool
+total x y k = differ (differ x y) k
+
+pub row_sum : (w : ℕ) (f g : ℕ → Bool) (enter : Bool) (s : ℕ → Bool) (fallen : Bool) → Agree w s (merged total f g enter)
     → fallen ≡ over f g enter w → Add w (tab w f) (tab w g) enter (tab w s) fallen
 row_sum w f g enter s fallen e o =
-    (sums_agree_lem w (tab w f) (tab w g) enter (tab w s) fallen (length-tab w s)).1 (row_merged Sum w f g enter s e, o ∙ carry_row Sum w f g enter w (omega arith))
+    (sums_agree_lem w (tab w f) (tab w g) enter (tab w s) fallen (length-tab w s)).1 (row_merged total w f g enter s e, o ∙ carry_row total w f g enter w (omega arith))
 
 -- one place on
 pub row_moved : (w : ℕ) (f s : ℕ → Bool) (enter : Bool) → s 0 ≡ enter → ((j : ℕ) → suc j < w → s (suc j) ≡ f j)
@@ -58,10 +60,7 @@ pub row_read : (w k byte : ℕ) (f : ℕ → Bool) → Served w k → ((j : ℕ)
 row_read w k byte f served e =
     record { inside = λ _ j h. e j h ∙ sym (bit_tab w f (8 * k + j) (omega arith)); past = λ h. absurd (omega arith) }
 
--- the first one from i on: at t, or nowhere
-module _ (w : ℕ) (f : ℕ → Bool) (i : ℕ) where
-  pub found : (t : ℕ) → i ≤ t → t < w → f t ≡ true → ((q : ℕ) → i ≤ q → q < t → f q ≡ false) → Least (bit (tab w f)) i w (Some t)
-  found t a b e h = (a, b, bit_tab w f t b ∙ e, λ q x y. bit_tab w f q (omega arith) ∙ h q x y)
-
-  pub none_found : ((q : ℕ) → i ≤ q → q < w → f q ≡ false) → Least (bit (tab w f)) i w None
-  none_found h q x y = bit_tab w f q y ∙ h q x y
+-- the first one from i on
+pub first_row : (w : ℕ) (f : ℕ → Bool) (i : ℕ) (r : Option ℕ) → Least f i w r → Least (bit (tab w f)) i w r
+first_row w f i None h = λ q x y. bit_tab w f q y ∙ h q x y
+first_row w f i (Some t) (a, b, e, h) = (a, b, bit_tab w f t b ∙ e, λ q x y. bit_tab w f q (omega arith) ∙ h q x y)

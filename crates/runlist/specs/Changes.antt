@@ -1,6 +1,6 @@
 -- A row of bits by its changes: the places where a bit differs from the one before, a zero standing before place 0.
 -- Assumes nothing.
-use Rattle.std.specs.Prelude.{◌≡◌, ℕ, zero, suc, ◌<◌, Bool, true, false, not, ◌&&◌, ◌||◌, List, [], ◌∷◌, take, ◌==◌, nat_le}
+use Rattle.std.specs.Prelude.{◌≡◌, ℕ, zero, suc, ◌<◌, Bool, true, false, not, ◌&&◌, ◌||◌, List, [], ◌∷◌, ◌==◌, nat_le}
 use Rattle.block.specs.Calls.{differ, enters}
 
 abbrev pub odd : ℕ → Bool
@@ -27,10 +27,6 @@ among (x ∷ l) i = x == i || among l i
 abbrev pub KeepsChanges : Type 0
 KeepsChanges =
     (e : ℕ) (l : List ℕ) → rises 0 e l ≡ true → (i : ℕ) → among l i ≡ differ (shown l i) (enters false (shown l) i)
-
--- the bit at place i, of the first n changes in an array
-abbrev pub shows : List ℕ → ℕ → ℕ → Bool
-shows at n i = shown (take n at) i
 
 -- two rows agree before place p
 abbrev pub Agree : ℕ → (ℕ → Bool) → (ℕ → Bool) → Type 0

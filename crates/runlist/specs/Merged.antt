@@ -1,12 +1,10 @@
--- What a merge makes of two bits and the carry of their sum at one place. Assumes nothing.
-use Rattle.std.specs.Prelude.{Bool, not, ◌&&◌, ◌||◌}
-use Rattle.block.specs.Calls.{differ}
-use Rattle.runlist.specs.declared.Op.{Op}
-use Rattle.runlist.specs.declared.Op.TheVariants.{And, Or, Xor, Not, Sum}
+-- What a merge makes of two rows, place by place: of the two bits, and of the carry of their sum. Assumes nothing.
+use Rattle.std.specs.Prelude.{◌≡◌, ℕ, Bool}
+use Rattle.block.specs.Sums.{over}
 
-abbrev pub gives : Op → Bool → Bool → Bool → Bool
-gives And x y k = x && y
-gives Or x y k = x || y
-gives Xor x y k = differ x y
-gives Not x y k = not x
-gives Sum x y k = differ (differ x y) k
+-- each bit that a call may answer is what f makes of the bits that it got
+abbrev pub Computes : (Bool → Bool → Bool → Bool → Type 0) → (Bool → Bool → Bool → Bool) → Type 0
+Computes answers f = (x y carry bit : Bool) → answers x y carry bit → bit ≡ f x y carry
+
+abbrev pub merged : (Bool → Bool → Bool → Bool) → (ℕ → Bool) → (ℕ → Bool) → Bool → ℕ → Bool
+merged f x y enter i = f (x i) (y i) (over x y enter i)

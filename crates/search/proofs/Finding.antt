@@ -4,7 +4,8 @@ use native.Mathlib.Decide.{dec_lt}
 use native.Mathlib.Nat.{add-mod_right}
 use lib.Arith.{digits_div}
 use lib.ListN.{get_or-append}
-use Rattle.std.proofs.lemmas.List.{append-nil}
+use Rattle.std.proofs.lemmas.List.{append-nil, nil_from_length}
+use Rattle.std.proofs.lemmas.Option.{none-some}
 use Rattle.std.proofs.lemmas.Bool.{false≢true}
 use Rattle.stream.specs.Tables.{rows}
 use Rattle.stream.proofs.Tables.{rows_read, rows_here, rows_wide}
@@ -19,7 +20,7 @@ use Rattle.form.specs.Positions.{line_at, start_at, place_at}
 use Rattle.form.specs.Running.{EarlyEnds, places_from}
 use Rattle.form.proofs.Running.{early_none, early_unique}
 use Rattle.marks.specs.Among.{among}
-use Rattle.marks.specs.Counting.{FeedsAt, Counts, Moves, Nexts}
+use Rattle.marks.specs.Counting.{FeedsAt, Counts, Moves}
 use Rattle.marks.specs.declared.count.Lines.{Lines}
 use Rattle.marks.proofs.Marked.{places_none, places_first, places_among}
 use Rattle.tree.specs.Stands.{Stands}
@@ -28,7 +29,7 @@ use Rattle.machine.specs.declared.loaded.Matcher.{Matcher}
 use Rattle.machine.proofs.Ready.{kept_runs}
 use Rattle.machine.proofs.Early.{shown_early}
 use Rattle.history.specs.Rules.{last_block_of, waiting_row, some}
-use Rattle.search.specs.Finding.{padded, Showing, FirstLines, ends_in, Blank, Finds}
+use Rattle.search.specs.Finding.{padded, Showing, Lined, ends_in, Blank, Finds}
 use Rattle.search.specs.declared.finder.Finder.{Finder}
 
 -- ---- tapes that agree before a position
@@ -56,9 +57,35 @@ block_at w k n pos fits =
     let less : n - 1 < w = omega arith in
     ap (λ q. w * (q / w)) e ∙ ap (λ q. w * q) (digits_div k less) ∙ mul_comm w k
 
--- ---- one block more
+module _ {B : Type 0} (row : B → List Bool) (w : ℕ) (eight : 8 ≤ w) where
+  -- ---- whole blocks
 
-module _ {B : Type 0} (row : B → List Bool) (w : ℕ) (pos : 0 < w) where
+  multiple : (n : ℕ) → n % w ≡ 0 → (k : ℕ) × (n ≡ k * w)
+  multiple n e = (n / w, omega (arith, div-add-mod' n w))
+
+  pub full_more : (m piece : List ℕ) → length m % w ≡ 0 → length piece ≡ w → length (m ++ piece) % w ≡ 0
+  full_more m piece e f = ap (λ n. n % w) (length-append m piece ∙ ap (λ n. length m + n) f) ∙ add-mod_right (length m) w ∙ e
+
+  -- the last block is the one behind the bytes before it
+  pub last_block : (m piece : List ℕ) → length m % w ≡ 0 → 0 < length piece → length piece ≤ w → last_block_of w (m ++ piece) ≡ length m
+  last_block m piece full some fits =
+      let k = multiple (length m) full in
+      ap (λ n. w * ((n - 1) / w)) (length-append m piece ∙ ap (λ n. n + length piece) k.1) ∙ block_at w k.0 (length piece) some fits ∙ sym k.1
+
+  -- whole blocks end where the last of them does
+  behind_last : (m : List ℕ) → length m % w ≡ 0 → 0 < length m → last_block_of w m + w ≡ length m
+  behind_last m full p =
+      let k = multiple (length m) full in
+      elim k.0 as (λ j. length m ≡ j * w → last_block_of w m + w ≡ length m) [
+        | zero ↦ λ e. absurd (omega (arith, e))
+        | suc j ↦ λ e.
+            let e' : length m ≡ j * w + w = e ∙ suc-mul j w in
+            let l : last_block_of w m ≡ j * w = ap (λ n. w * ((n - 1) / w)) e' ∙ block_at w j w (omega arith) (omega arith) in
+            omega (arith, l, e')
+      ] k.1
+
+  -- ---- one block more
+
   -- lines counted along a longer recording
   counts_on : (l : Lines B) (m piece : List ℕ) → l.base + w ≤ length m → l.at ≤ w → Counts row w (padded m) l → Counts row w (padded (m ++ piece)) l
   counts_on l m piece inside at C =
@@ -73,94 +100,73 @@ module _ {B : Type 0} (row : B → List Bool) (w : ℕ) (pos : 0 < w) where
   feeds_at m piece feeds e b eb i h =
       bit_at w (row feeds) _ e i h ∙ ap (λ v. eqb v feed) (sym (ap (λ q. padded (m ++ piece) (q + i)) eb ∙ get_or-append-add m piece i 0))
 
-  module _ (x y : Finder B) (F : Form) (m piece : List ℕ) (hs : List Place) (X : Finds row w x F m hs []) (full : length m % w ≡ 0) (k : ℕ) (blocks : length m ≡ k * w)
-      (some : 0 < length piece) (fits : length piece ≤ w) (far : length m + length piece ≤ longest_recording + 1)
-      (loaded : Loaded F y.matcher) (count : y.matched ≡ x.matched + length piece) (feeds : B) (ef : row feeds ≡ feeds_of w piece)
-      (S : Shows F m piece (ends_in row w y))
-      (first : x.matched ≡ 0 → FirstLines row w feeds y.lines)
-      (next : 0 < x.matched → (b : Bool) × Nexts row w feeds x.lines y.lines b) where
+  module _ (x y : Finder B) (F : Form) (m piece : List ℕ) (hs : List Place) (X : Finds row w x F m hs []) (full : length m % w ≡ 0)
+      (some : 0 < length piece) (fits : length piece ≤ w) (far : length m + length piece ≤ longest_recording + 1) (loaded : Loaded F y.matcher) (feeds : B)
+      (ef : row feeds ≡ feeds_of w piece) (S : Shows F m piece (ends_in row w y)) (l : Lines B) (is : y.lines ≡ Some l)
+      (lined : Lined row w feeds x.lines l) where
     size : length (m ++ piece) ≡ length m + length piece
     size = length-append m piece
 
     base : last_block_of w (m ++ piece) ≡ length m
-    base = ap (λ n. w * ((n - 1) / w)) (size ∙ ap (λ n. n + length piece) blocks) ∙ block_at w k (length piece) some fits ∙ sym blocks
+    base = last_block m piece full some fits
 
-    record Lined : Type 0 where
-      counts : Counts row w (padded (m ++ piece)) y.lines
-      here : y.lines.base ≡ length m
-      start : y.lines.at ≡ 0
+    record Begins : Type 0 where
+      counts : Counts row w (padded (m ++ piece)) l
+      here : l.base ≡ length m
+      start : l.at ≡ 0
 
-    lined_first : x.matched ≡ 0 → Lined
-    lined_first z =
-        let f = first z in
-        let none : length m ≡ 0 = sym X.matched ∙ z in
+    begins_first : length m ≡ 0 → Lined row w feeds None l → Begins
+    begins_first none f =
         record {
           counts = f.1 (padded (m ++ piece)) (feeds_at m piece feeds ef 0 (sym none));
           here = f.0.base ∙ sym none;
           start = f.0.at;
         }
 
-    -- the block before is the one that ends m
-    before : 0 < length m → x.lines.base + w ≡ length m
-    before p =
-        let s = X.shown p in
-        let b = s.base in
-        elim k as (λ j. length m ≡ j * w → x.lines.base + w ≡ length m) [
-          | zero ↦ λ e. absurd (omega (arith, e))
-          | suc j ↦ λ e.
-              let e' : length m ≡ j * w + w = e ∙ more j in
-              let l : last_block_of w m ≡ j * w = ap (λ n. w * ((n - 1) / w)) e' ∙ block_at w j w pos (omega arith) in
-              omega (arith, b, l, e')
-        ] blocks
-      where
-        more : (j : ℕ) → suc j * w ≡ j * w + w
-        more j = suc-mul j w
+    begins_next : (j : Lines B) → Showing row w j (ends_in row w x) m [] → j.base + w ≡ length m → Lined row w feeds (Some j) l → Begins
+    begins_next j s e (true, n) =
+        record {
+          counts =
+              n.5 (padded (m ++ piece)) (counts_on j m piece (omega arith) s.within s.counts) (feeds_at m piece feeds ef (j.base + w) e);
+          here = n.3 ∙ e;
+          start = n.4;
+        }
+    begins_next j s e (false, (inl h, _)) = absurd (omega arith)
+    begins_next j s e (false, (inr h, _)) = absurd (omega arith)
 
-    lined_next : 0 < x.matched → Lined
-    lined_next p =
-        let lm : 0 < length m = let c = X.matched in omega arith in
-        let s = X.shown lm in
-        let b = before lm in
-        let n = next p in
-        go n.0 n.1 s b
-      where
-        go : (r : Bool) → Nexts row w feeds x.lines y.lines r → Showing row w x.lines (ends_in row w x) m [] → x.lines.base + w ≡ length m → Lined
-        go true n s b =
-            record {
-              counts =
-                  n.5 (padded (m ++ piece)) (counts_on x.lines m piece (omega arith) s.within s.counts)
-                  (feeds_at m piece feeds ef (x.lines.base + w) b);
-              here = n.3 ∙ b;
-              start = n.4;
-            }
-        go false (inl h, e) s b = absurd (let a = s.within in omega arith)
-        go false (inr h, e) s b = absurd (let f = X.few in let n = X.narrow in omega arith)
-
-    lined : Lined
-    lined = elim (dec_lt 0 x.matched) [ yes p ↦ lined_next p | no p ↦ lined_first (omega arith) ]
+    begins : Begins
+    begins =
+        elim (dec_lt 0 (length m)) [
+          | yes p ↦
+              let s = X.shown p in
+              begins_next s.0 s.2 (let b = s.2.base in omega (arith, b, behind_last m full p)) (subst (λ o. Lined row w feeds o l) s.1 lined)
+          | no p ↦ let z : length m ≡ 0 = omega arith in begins_first z (subst (λ o. Lined row w feeds o l) (X.blank z).lines lined)
+        ]
 
     abbrev pub waits : List Place
     waits = places_from (padded (m ++ piece)) (λ q. bit (ends_in row w y) (q - length m)) (length m) w
 
     pub more : Finds row w y F (m ++ piece) hs waits
     more =
-        let l = lined in
+        let b = begins in
         let early : EarlyEnds m F hs = subst (EarlyEnds m F) (append-nil hs) X.early in
         record {
           loaded = loaded;
           narrow = X.narrow;
-          matched = count ∙ ap (λ n. n + length piece) X.matched ∙ sym size;
           few = omega (arith, size);
           early = shown_early F m piece (ends_in row w y) S hs early w fits;
-          none = λ z. absurd (omega (arith, size));
-          shown = λ p.
-              record {
-                counts = l.counts;
-                base = l.here ∙ sym base;
-                within = let a = l.start in omega arith;
-                drawn = λ i h. absurd (let a = l.start in omega arith);
-                waits = ap (λ b. places_from (padded (m ++ piece)) (λ q. bit (ends_in row w y) (q - b)) b w) (sym l.here);
-              };
+          blank = λ z. absurd (omega (arith, size));
+          shown = λ p. (
+            l,
+            is,
+            record {
+              counts = b.counts;
+              base = b.here ∙ sym base;
+              within = omega (arith, b.start);
+              drawn = λ i h. absurd (omega (arith, b.start));
+              waits = ap (λ b. places_from (padded (m ++ piece)) (λ q. bit (ends_in row w y) (q - b)) b w) (sym b.here);
+            },
+          );
         }
 
   -- ---- the start of a recording
@@ -170,29 +176,24 @@ module _ {B : Type 0} (row : B → List Bool) (w : ℕ) (pos : 0 < w) where
       record {
         loaded = loaded;
         narrow = narrow;
-        matched = b.matched;
         few = omega arith;
         early = early_none F;
-        none = λ _. b.none;
+        blank = λ _. b;
         shown = λ p. absurd (omega arith);
       }
 
   -- ---- the block of ends
 
   pub ends_read : (x : Finder B) (b : B) → b ≡ get_or (vec_items x.ends) 0 b → ends_in row w x ≡ row b
-  ends_read x b e = let l = x.one in let o = x.ends.ok.0 in rows_read row (vec_items x.ends) 0 b (omega arith) e
+  ends_read x b e = rows_read row (vec_items x.ends) 0 b (omega arith) e
 
   pub ends_written : (x : Finder B) (b : B) → rows row (set (vec_items x.ends) 0 b) 0 ≡ row b
-  ends_written x b = let l = x.one in let o = x.ends.ok.0 in rows_here row (vec_items x.ends) 0 b (omega arith)
+  ends_written x b = rows_here row (vec_items x.ends) 0 b (omega arith)
 
   pub ends_wide : ((b : B) → length (row b) ≡ w) → (x : Finder B) → length (ends_in row w x) ≡ w
-  ends_wide wide x = let l = x.one in let o = x.ends.ok.0 in rows_wide row w wide (vec_items x.ends) 0 (omega arith)
+  ends_wide wide x = rows_wide row w wide (vec_items x.ends) 0 (omega arith)
 
   -- ---- what waits
-
-  no_bytes : (xs : List ℕ) → length xs ≡ 0 → xs ≡ []
-  no_bytes [] e = refl
-  no_bytes (x ∷ xs) e = absurd (omega arith)
 
   no_ends : (hs ws : List Place) → (hs ++ ws) ≡ [] → ws ≡ []
   no_ends [] ws e = e
@@ -202,16 +203,16 @@ module _ {B : Type 0} (row : B → List Bool) (w : ℕ) (pos : 0 < w) where
     -- before the first block none does
     pub none_yet : length m ≡ 0 → ws ≡ []
     none_yet e =
-        let early = subst (λ b. EarlyEnds b F (hs ++ ws)) (no_bytes m e) X.early in
+        let early = subst (λ b. EarlyEnds b F (hs ++ ws)) (nil_from_length m e) X.early in
         no_ends hs ws (early_unique [] F (hs ++ ws) [] early (early_none F))
 
     zeros : length m ≡ 0 → (i : ℕ) → i < w → bit (ends_in row w x) i ≡ false
-    zeros e i h = bit_at w (ends_in row w x) _ (X.none e) i h
+    zeros e i h = bit_at w (ends_in row w x) _ (X.blank e).none i h
 
     pub dry : ((i : ℕ) → i < w → bit (ends_in row w x) i ≡ false) → ws ≡ []
     dry none =
         elim (dec_lt 0 (length m)) [
-          | yes p ↦ let s = X.shown p in s.waits ∙ places_none (padded m) (ends_in row w x) x.lines.base w none
+          | yes p ↦ let s = X.shown p in s.2.waits ∙ places_none (padded m) (ends_in row w x) s.0.base w none
           | no p ↦ none_yet (omega arith)
         ]
 
@@ -222,21 +223,32 @@ module _ {B : Type 0} (row : B → List Bool) (w : ℕ) (pos : 0 < w) where
           | no l ↦ absurd (false≢true (sym (zeros (omega arith) p h) ∙ e))
         ]
 
-    -- a place that holds an end can be asked for
-    pub never_past : (p : ℕ) → p < w → bit (ends_in row w x) p ≡ true → (p < x.lines.at) ⊎ (w ≤ p) → ⊥
-    never_past p inside one (inl h) = false≢true (sym ((X.shown (held p inside one)).drawn p h) ∙ one)
-    never_past p inside one (inr h) = omega arith
+    -- where a place holds an end, the lines of the block are counted
+    module _ (p : ℕ) (inside : p < w) (one : bit (ends_in row w x) p ≡ true) where
+      pub never_unlined : x.lines ≡ None → ⊥
+      never_unlined e = let s = X.shown (held p inside one) in none-some s.0 (sym e ∙ s.1)
+
+      pub lined_as : (l : Lines B) → x.lines ≡ Some l → Showing row w l (ends_in row w x) m ws
+      lined_as l e =
+          let s = X.shown (held p inside one) in
+          let same : s.0 ≡ l = let q = s.1 in cc in
+          subst (λ (j : Lines B). Showing row w j (ends_in row w x) m ws) same s.2
+
+      -- and it can be asked for
+      pub never_past : (l : Lines B) → x.lines ≡ Some l → (p < l.at) ⊎ (w ≤ p) → ⊥
+      never_past l e (inl h) = false≢true (sym ((lined_as l e).drawn p h) ∙ one)
+      never_past l e (inr h) = omega arith
 
     -- some end waits just where the block has a one
     pub waits_some : w ≤ widest → (o : Option ℕ) → First w (ends_in row w x) 0 o → is_some o ≡ some ws
     waits_some seen None h = ap some (sym (dry (λ i l. h i (omega arith) (omega arith))))
     waits_some seen (Some p) h =
-        let inside : p < w = let l = h.1 in omega arith in
+        let inside : p < w = omega arith in
         let s = X.shown (held p inside h.2) in
         let rest : List Bool = tab w (λ i. bit (ends_in row w x) i && not (eqb i p)) in
         ap some
-        (sym (s.waits
-        ∙ places_first (padded m) (ends_in row w x) rest x.lines.base w p inside h.2 (λ i l. h.3 i (omega arith) l)
+        (sym (s.2.waits
+        ∙ places_first (padded m) (ends_in row w x) rest s.0.base w p inside h.2 (λ i l. h.3 i (omega arith) l)
         (λ i l. bit_tab w _ i l)))
 
     pub waiting_row_lem : length (ends_in row w x) ≡ w → ends_in row w x ≡ waiting_row w m ws
@@ -246,9 +258,9 @@ module _ {B : Type 0} (row : B → List Bool) (w : ℕ) (pos : 0 < w) where
         elim (dec_lt 0 (length m)) [
           | yes p ↦
               let s = X.shown p in
-              let b = x.lines.base in
+              let b = s.0.base in
               let at : b + i - b ≡ i = omega arith in
-              sym (ap (λ l. among l (last_block_of w m + i)) s.waits ∙ ap (λ q. among (places_from (padded m) (λ q. bit (ends_in row w x) (q - b)) b w) (q + i)) (sym s.base)
+              sym (ap (λ l. among l (last_block_of w m + i)) s.2.waits ∙ ap (λ q. among (places_from (padded m) (λ q. bit (ends_in row w x) (q - b)) b w) (q + i)) (sym s.2.base)
               ∙ places_among (padded m) (λ q. bit (ends_in row w x) (q - b)) b w (b + i) (omega arith) (omega arith) ∙ ap (bit (ends_in row w x)) at)
           | no p ↦ zeros (omega arith) i h ∙ sym (ap (λ l. among l (last_block_of w m + i)) (none_yet (omega arith)))
         ])
@@ -261,57 +273,44 @@ module _ {B : Type 0} (row : B → List Bool) (w : ℕ) (pos : 0 < w) where
 
     -- the place of the first one
     module _ (after : List Bool) (p : ℕ) (inside : p < w) (one : bit (ends_in row w x) p ≡ true) (least : (i : ℕ) → i < p → bit (ends_in row w x) i ≡ false)
-        (cleared : (i : ℕ) → i < w → bit after i ≡ (bit (ends_in row w x) i && not (eqb i p))) where
+        (cleared : (i : ℕ) → i < w → bit after i ≡ (bit (ends_in row w x) i && not (eqb i p))) (l : Lines B) (lined : x.lines ≡ Some l) where
       some_bytes : 0 < length m
       some_bytes = held p inside one
 
-      s : Showing row w x.lines (ends_in row w x) m ws
-      s = X.shown some_bytes
+      s : Showing row w l (ends_in row w x) m ws
+      s = lined_as p inside one l lined
 
       abbrev pub drawn : Place
-      drawn = place_at (padded m) (x.lines.base + p)
+      drawn = place_at (padded m) (l.base + p)
 
       abbrev pub left : List Place
-      left = places_from (padded m) (λ q. bit after (q - x.lines.base)) x.lines.base w
+      left = places_from (padded m) (λ q. bit after (q - l.base)) l.base w
 
       pub first : ws ≡ drawn ∷ left
-      first = s.waits ∙ places_first (padded m) (ends_in row w x) after x.lines.base w p inside one least cleared
+      first = s.waits ∙ places_first (padded m) (ends_in row w x) after l.base w p inside one least cleared
 
-      pub handed : (y : Finder B) → ends_in row w y ≡ after → y.matcher ≡ x.matcher → y.matched ≡ x.matched → Moves row w x.lines y.lines p
+      pub handed : (y : Finder B) (k : Lines B) → ends_in row w y ≡ after → y.matcher ≡ x.matcher → y.lines ≡ Some k → Moves row w l k p
           → Finds row w y F m (hs ++ drawn ∷ []) left
-      handed y ends matcher matched moves =
+      handed y k ends matcher lines moves =
           record {
             loaded = subst (Loaded F) (sym matcher) X.loaded;
             narrow = X.narrow;
-            matched = matched ∙ X.matched;
             few = X.few;
             early = subst (EarlyEnds m F) (ap (λ l. hs ++ l) first ∙ sym (append_assoc hs (drawn ∷ []) left)) X.early;
-            none = λ z. absurd (let l = some_bytes in omega arith);
-            shown = λ l.
-                record {
-                  counts = moves.counts (padded m) s.counts;
-                  base = moves.base ∙ s.base;
-                  within = let a = moves.at in omega arith;
-                  drawn = λ i h.
-                      let a = moves.at in
-                      ap (λ r. bit r i) ends ∙ cleared i (omega arith) ∙ ap (λ b. b && not (eqb i p)) (least i (omega arith));
-                  waits = λ i. places_from (padded m) (λ q. bit (sym ends i) (q - sym moves.base i)) (sym moves.base i) w;
-                };
+            blank = λ z. absurd (let l = some_bytes in omega arith);
+            shown = λ _. (
+              k,
+              lines,
+              record {
+                counts = moves.counts (padded m) s.counts;
+                base = moves.base ∙ s.base;
+                within = omega arith;
+                drawn = λ i h.
+                    ap (λ r. bit r i) ends ∙ cleared i (omega arith) ∙ ap (λ b. b && not (eqb i p)) (least i (omega arith));
+                waits = λ i. places_from (padded m) (λ q. bit (sym ends i) (q - sym moves.base i)) (sym moves.base i) w;
+              },
+            );
           }
-
-  -- ---- whole blocks
-
-  pub multiple : (n : ℕ) → n % w ≡ 0 → (k : ℕ) × (n ≡ k * w)
-  multiple n e = (n / w, omega (arith, div-add-mod' n w))
-
-  pub full_more : (m piece : List ℕ) → length m % w ≡ 0 → length piece ≡ w → length (m ++ piece) % w ≡ 0
-  full_more m piece e f = ap (λ n. n % w) (length-append m piece ∙ ap (λ n. length m + n) f) ∙ add-mod_right (length m) w ∙ e
-
-  -- the last block is the one behind the bytes before it
-  pub last_block : (m piece : List ℕ) → length m % w ≡ 0 → 0 < length piece → length piece ≤ w → last_block_of w (m ++ piece) ≡ length m
-  last_block m piece full some fits =
-      let k = multiple (length m) full in
-      ap (λ n. w * ((n - 1) / w)) (length-append m piece ∙ ap (λ n. n + length piece) k.1) ∙ block_at w k.0 (length piece) some fits ∙ sym k.1
 
 pub kept_loaded : (F : Form) (a b : Matcher) → Keeps a b → Loaded F a → Loaded F b
 kept_loaded F a b K L =

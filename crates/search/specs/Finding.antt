@@ -11,7 +11,7 @@ use Rattle.refusal.specs.declared.ends.End.{End}
 use Rattle.refusal.specs.declared.Refusal.{Refusal}
 use Rattle.refusal.specs.declared.Refusal.TheVariants.{KindTooWide}
 use Rattle.compiler.specs.Faults.{Reads, Refused}
-use Rattle.marks.specs.Counting.{end_of, FeedsAt, Counts, AtFirst}
+use Rattle.marks.specs.Counting.{end_of, FeedsAt, Counts, AtFirst, Nexts}
 use Rattle.marks.specs.declared.count.Lines.{Lines}
 use Rattle.machine.specs.Matching.{Loaded, Matched, Same}
 use Rattle.history.specs.Rules.{last_block_of, some}
@@ -30,9 +30,10 @@ pub record Showing {B : Type 0} (row : B → List Bool) (w : ℕ) (lines : Lines
   pub drawn : (i : ℕ) → i < lines.at → bit ends i ≡ false
   pub waits : ws ≡ places_from (padded m) (λ q. bit ends (q - lines.base)) lines.base w
 
--- the lines of a recording's first block, of these line feeds
-abbrev pub FirstLines : {B : Type 0} → (B → List Bool) → ℕ → B → Lines B → Type 0
-FirstLines row w feeds l = AtFirst feeds l × ((t : ℕ → ℕ) → FeedsAt t 0 w (row feeds) → Counts row w t l)
+-- the lines of a block with these line feeds: of a recording's first block, or of the one behind the block with the lines k
+abbrev pub Lined : {B : Type 0} → (B → List Bool) → ℕ → B → Option (Lines B) → Lines B → Type 0
+Lined row w feeds None l = AtFirst feeds l × ((t : ℕ → ℕ) → FeedsAt t 0 w (row feeds) → Counts row w t l)
+Lined row w feeds (Some k) l = (b : Bool) × Nexts row w feeds k l b
 
 module _ {B : Type 0} (row : B → List Bool) (w : ℕ) where
   -- the ends of the block matched last that are not drawn yet
@@ -42,36 +43,31 @@ module _ {B : Type 0} (row : B → List Bool) (w : ℕ) where
   -- no block was matched
   pub record Blank (x : Finder B) : Type 0 where
     pub none : ends_in x ≡ none_row w
-    pub matched : x.matched ≡ 0
+    pub lines : x.lines ≡ None
 
   -- x seeks F, has matched the bytes m and handed out the ends hs, and the ends ws wait
   pub record Finds (x : Finder B) (F : Form) (m : List ℕ) (hs ws : List Place) : Type 0 where
     pub loaded : Loaded F x.matcher
     pub narrow : w ≤ widest_kind
-    pub matched : x.matched ≡ length m
     pub few : length m ≤ longest_recording + 1
     pub early : EarlyEnds m F (hs ++ ws)
-    pub none : length m ≡ 0 → ends_in x ≡ none_row w
-    pub shown : 0 < length m → Showing row w x.lines (ends_in x) m ws
+    pub blank : length m ≡ 0 → Blank x
+    pub shown : 0 < length m → (l : Lines B) × (x.lines ≡ Some l) × Showing row w l (ends_in x) m ws
 
   -- it can go on from there with another block
   pub record Goes (x : Finder B) (F : Form) (m : List ℕ) : Type 0 where
     pub carried : Matched F m x.matcher
     pub full : length m % w ≡ 0
 
-  -- y is as x was
-  pub record Alike (x y : Finder B) : Type 0 where
-    pub matcher : y.matcher ≡ x.matcher
-    pub ends : y.ends ≡ x.ends
-    pub lines : y.lines ≡ x.lines
-    pub matched : y.matched ≡ x.matched
+  -- P holds of what x seeks and has matched and handed out, and of what waits
+  abbrev pub WhereFinds : Finder B → (Form → List ℕ → (hs ws : List Place) → Type 0) → Type 0
+  WhereFinds x P = (F : Form) (m : List ℕ) (hs ws : List Place) → Finds x F m hs ws → P F m hs ws
 
   -- y is as x was, but for the room in which a text is read
   pub record Kept (x y : Finder B) : Type 0 where
     pub matcher : Same x.matcher y.matcher
     pub ends : y.ends ≡ x.ends
     pub lines : y.lines ≡ x.lines
-    pub matched : y.matched ≡ x.matched
 
   -- what loading answers and leaves
   abbrev pub LoadsText : List ℕ → Finder B → Finder B → Result (Unit {0}) Refusal → Type 0
@@ -88,8 +84,8 @@ module _ {B : Type 0} (row : B → List Bool) (w : ℕ) where
 
   -- the next end that waits is handed out, if there is one
   abbrev pub Draws : Finder B → Finder B → Option End → Type 0
-  Draws x y None = Alike x y × ((F : Form) (m : List ℕ) (hs ws : List Place) → Finds x F m hs ws → ws ≡ [])
+  Draws x y None = (y ≡ x) × WhereFinds x (λ F m hs ws. ws ≡ [])
   Draws x y (Some e) =
       (Blank x → ⊥)
-      × ((F : Form) (m : List ℕ) (hs ws : List Place) → Finds x F m hs ws →
+      × WhereFinds x (λ F m hs ws.
       (p : Place) × (vs : List Place) × (ws ≡ p ∷ vs) × (e ≡ end_of p) × Finds y F m (hs ++ p ∷ []) vs × (Goes x F m → Goes y F m))

@@ -1,7 +1,7 @@
 -- How a search stands to what was asked of it and what it answered. Assumes nothing.
-use Rattle.std.specs.Prelude.{◌≡◌, ℕ, ◌<◌, ◌≤◌, Bool, true, false, List, [], ◌∷◌, ◌++◌, length, take, Some, None, Ok, Err, vec_items, Option, Result}
-use Rattle.limits.specs.Limits.{longest_recording}
-use Rattle.form.specs.Form.{Form}
+use Rattle.std.specs.Prelude.{◌≡◌, ℕ, ◌<◌, ◌≤◌, Bool, true, false, List, [], ◌∷◌, ◌++◌, length, Some, None, Ok, Err, Option, Result}
+use Rattle.limits.specs.Limits.{longest_recording, need}
+use Rattle.form.specs.Form.{Form, weight}
 use Rattle.form.specs.Lines.{Place}
 use Rattle.form.specs.Positions.{closed}
 use Rattle.refusal.specs.declared.ends.End.{End}
@@ -39,12 +39,15 @@ asked call.Waiting blocks = history.waiting
 abbrev pub place_of : End → Place
 place_of e = record { line = e.line; column = e.column; position = e.position }
 
+abbrev pub drawn : Option End → Told
+drawn None = history.none
+drawn (Some e) = history.found (place_of e)
+
 module _ {B : Type 0} (row : B → List Bool) where
   abbrev pub said : Answer B → Told
   said answer.Done = history.done
   said (answer.Took n) = history.took n
-  said (answer.Found e) = history.found (place_of e)
-  said answer.Nothing = history.none
+  said (answer.Drawn o) = drawn o
   said (answer.Count n) = history.count n
   said (answer.Block b) = history.shown (row b)
 
@@ -54,46 +57,32 @@ module _ {B : Type 0} (row : B → List Bool) where
 
 -- only feed and close write to the working blocks
 abbrev pub works : Asked → Bool
-works (history.load text) = false
-works history.rewind = false
 works (history.feed piece blocks) = true
-works history.draw = false
 works (history.close blocks) = true
-works history.taken = false
-works history.weight = false
-works history.waiting = false
+works _ = false
 
 -- these calls only ask
 abbrev pub asks : Asked → Bool
-asks (history.load text) = false
-asks history.rewind = false
-asks (history.feed piece blocks) = false
-asks history.draw = false
-asks (history.close blocks) = false
 asks history.taken = true
 asks history.weight = true
 asks history.waiting = true
+asks _ = false
 
 abbrev pub is_refused : Told → Bool
 is_refused (history.refused r) = true
-is_refused history.done = false
-is_refused (history.took n) = false
-is_refused (history.found e) = false
-is_refused history.none = false
-is_refused (history.count n) = false
-is_refused (history.shown bits) = false
+is_refused _ = false
+
+abbrev pub gathered_of : {B : Type 0} → Search B → List ℕ
+gathered_of s = s.gathered.items
 
 module _ {B : Type 0} (row : B → List Bool) (w : ℕ) where
-  abbrev pub gathered_of : Search B → List ℕ
-  gathered_of s = take s.fill (vec_items s.gathered)
-
   -- an open search has taken these bytes, has handed out the ends hs, and the ends ws wait: it has matched whole blocks, and gathered the rest
   pub record Running (s : Search B) (F : Form) (bytes : List ℕ) (hs ws : List Place) : Type 0 where
     pub matched : List ℕ
     pub finds : Finds row w s.finder F matched hs ws
     pub goes : Goes row w s.finder F matched
     pub parts : bytes ≡ matched ++ gathered_of s
-    pub short : s.fill < w
+    pub short : length (gathered_of s) < w
     pub taken : s.taken ≡ length bytes
     pub few : length bytes ≤ longest_recording
 
@@ -127,7 +116,6 @@ module _ {B : Type 0} (row : B → List Bool) (w : ℕ) where
     pub state : t.state ≡ s.state
     pub finder : Kept row w s.finder t.finder
     pub gathered : t.gathered ≡ s.gathered
-    pub fill : t.fill ≡ s.fill
     pub taken : t.taken ≡ s.taken
 
   -- After the history h the call a with these working blocks has the right answer t, the search still tells its history, and the law
@@ -139,6 +127,22 @@ module _ {B : Type 0} (row : B → List Bool) (w : ℕ) where
     pub refused : is_refused t ≡ true → Left s u × (new ≡ old)
     pub asking : asks a ≡ true → Left s u
     pub idle : works a ≡ false → new ≡ old
+
+  -- whatever the history that has brought s there, the call a has the right answer t, and s becomes u
+  abbrev pub Serves : (s u : Search B) (old new : List B) → Asked → Told → Type 0
+  Serves s u old new a t = (h : History) → Tells s h → Performs s u old new h a t
+
+  -- and the working blocks are left, whatever they hold
+  abbrev pub ServesIdly : (s u : Search B) → Asked → Told → Type 0
+  ServesIdly s u a t = (blocks : List B) → Serves s u blocks blocks a t
+
+  -- P holds of the form that an open search seeks, of the bytes taken, and of the ends that wait
+  abbrev pub WhereRuns : Search B → (Form → List ℕ → List Place → Type 0) → Type 0
+  WhereRuns s P = (F : Form) (bytes : List ℕ) (hs ws : List Place) → Running s F bytes hs ws → P F bytes ws
+
+  -- P holds of the form, of the bytes taken and of the ends handed out, where none waits and the working blocks are enough
+  abbrev pub WhereReady : Search B → (blocks : ℕ) → (Form → List ℕ → List Place → Type 0) → Type 0
+  WhereReady s blocks P = (F : Form) (bytes : List ℕ) (hs : List Place) → Running s F bytes hs [] → need (weight F) ≤ blocks → P F bytes hs
 
 -- a check that refuses, or does not
 abbrev pub as_result : Option Refusal → Result (Unit {0}) Refusal

@@ -33,9 +33,8 @@ pub enum Answer<B> {
     Done,
     // How many bytes a feed took.
     Took(usize),
-    // The end that a draw found, or that there is none.
-    Found(End),
-    Nothing,
+    // The end that a draw found, if one waits.
+    Drawn(Option<End>),
     Count(usize),
     Block(B),
 }

@@ -7,12 +7,11 @@ use marks::Lines;
 #[derive(Drop)]
 pub struct Finder<B> {
     matcher: Matcher,
-    // The ends of the block matched last that are not drawn yet, a block for each text that is sought.
+    // The ends of the block matched last that are not drawn yet, a block for each text that is sought. A list, and no block alone, as
+    // the search is laid out for several texts; so far it is one.
     ends: Vec<B>,
-    // The lines of that block.
-    lines: Lines<B>,
-    // How many bytes were matched.
-    matched: usize,
+    // The lines of that block; none before the first.
+    lines: Option<Lines<B>>,
     ghost one: { vec_len ends ≡ 1 },
 }
 

@@ -97,29 +97,37 @@ module _ (w : ℕ) (rows : ℕ → List Bool) where
 
 -- the low half of a set, as the code masks it
 abbrev pub lower : ℕ → ℕ → ℕ
-lower set size = bit_and set ((1 * 2 ^ (size / 2)) % 2 ^ 128 - 1)
+lower set half = bit_and set ((1 * 2 ^ half) % 2 ^ 128 - 1)
 
-pub record Cut (n set size : ℕ) : Type 0 where
-  pub half : size / 2 ≡ 2 ^ (n - 1)
-  pub room : 1 ≤ (1 * 2 ^ (size / 2)) % 2 ^ 128
-  pub low : lower set size < 2 ^ (size / 2)
-  pub high : set / 2 ^ (size / 2) < 2 ^ (size / 2)
-  pub whole : set ≡ set / 2 ^ (size / 2) * 2 ^ (size / 2) + lower set size
+pub record Cut (n set half : ℕ) : Type 0 where
+  pub is : half ≡ 2 ^ (n - 1)
+  pub fits : half < 128
+  pub room : 1 ≤ (1 * 2 ^ half) % 2 ^ 128
+  pub lowest : lower set half < 2 ^ half
+  pub low : lower set half < 2 ^ (2 ^ (n - 1))
+  pub high : set / 2 ^ half < 2 ^ (2 ^ (n - 1))
+  pub whole : set ≡ set / 2 ^ half * 2 ^ half + lower set half
 
-pub cut : (n set size : ℕ) → 0 < n → n ≤ 7 → size ≡ 2 ^ n → set < 2 ^ size → Cut n set size
-cut n set size some few is small =
+-- a set of the numbers of n bits, cut at half of them, as the code shifts it
+pub cut : (n set : ℕ) → 0 < n → n ≤ 7 → set < 2 ^ (2 ^ n) → Cut n set ((1 * 2 ^ (n - 1)) % 2 ^ 64)
+cut n set some few small =
+    let half : ℕ = (1 * 2 ^ (n - 1)) % 2 ^ 64 in
+    let is : half ≡ 2 ^ (n - 1) = shl_exact 1 (n - 1) 64 (omega arith) (omega arith) ∙ omega arith in
     let e : n ≡ suc (n - 1) = omega arith in
     let twice : 2 ^ n ≡ 2 ^ (n - 1) * 2 = ap (λ k. 2 ^ k) e ∙ pow-suc 2 (n - 1) in
     let top : 2 ^ n ≤ 2 ^ 7 = pow_mono {i = n} {j = 7} few in
-    let exact : size ≡ size / 2 + size / 2 = omega arith in
-    let mask : (1 * 2 ^ (size / 2)) % 2 ^ 128 ≡ 2 ^ (size / 2) = shl_exact 1 (size / 2) 128 (omega arith) (omega arith) ∙ omega arith in
-    let low : lower set size ≡ set % 2 ^ (size / 2) = ap (λ m. bit_and set (m - 1)) mask ∙ and_mask set (size / 2) in
+    let exact : 2 ^ n ≡ half + half = omega arith in
+    let mask : (1 * 2 ^ half) % 2 ^ 128 ≡ 2 ^ half = shl_exact 1 half 128 (omega arith) (omega arith) ∙ omega arith in
+    let low : lower set half ≡ set % 2 ^ half = ap (λ m. bit_and set (m - 1)) mask ∙ and_mask set half in
+    let lowest : lower set half < 2 ^ half = subst (λ n. n < 2 ^ half) (sym low) (mod-lt set (pow_pos half)) in
     record {
-      half = omega arith;
-      room = subst (λ m. 1 ≤ m) (sym mask) (pow_pos (size / 2));
-      low = subst (λ n. n < 2 ^ (size / 2)) (sym low) (mod-lt set (pow_pos (size / 2)));
-      high = shr_lt (size / 2) (size / 2) (subst (λ n. set < 2 ^ n) exact small);
-      whole = sym (ap (λ n. set / 2 ^ (size / 2) * 2 ^ (size / 2) + n) low ∙ split set (size / 2));
+      is = is;
+      fits = omega arith;
+      room = subst (λ m. 1 ≤ m) (sym mask) (pow_pos half);
+      lowest = lowest;
+      low = subst (λ h. lower set half < 2 ^ h) is lowest;
+      high = subst (λ h. set / 2 ^ half < 2 ^ h) is (shr_lt half half (subst (λ n. set < 2 ^ n) exact small));
+      whole = sym (ap (λ n. set / 2 ^ half * 2 ^ half + n) low ∙ split set half);
     }
 
 -- ---- the whole byte

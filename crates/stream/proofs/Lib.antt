@@ -1,4 +1,4 @@
-mod Stars
+pub mod Stars
 mod Members
 mod Swaps
 pub mod Tables

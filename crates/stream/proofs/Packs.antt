@@ -1,7 +1,8 @@
 -- Bytes gathered in a number, the first the lowest, and the turns of the loops that do so. Assumes nothing.
-use Rattle.std.proofs.Common.{◌≡◌, ℕ, zero, suc, ◌+◌, ◌-◌, ◌*◌, ◌/◌, ◌%◌, ◌^◌, ◌<◌, ◌≤◌, Bool, false, cond, ltb, ◌⊎◌, List, [], ◌∷◌, length, get_or, drop, sym, refl, ap, ◌∙◌, subst, inl, inr, arith, pow_mono, pow-add, shl_exact, le-ltb, lt-ltb}
+use Rattle.std.proofs.Common.{◌≡◌, ℕ, ◌+◌, ◌-◌, ◌*◌, ◌/◌, ◌%◌, ◌^◌, ◌<◌, ◌≤◌, Bool, false, cond, ltb, ◌⊎◌, List, length, get_or, sym, refl, ap, ◌∙◌, subst, inl, inr, arith, pow_mono, pow-add, shl_exact, le-ltb, lt-ltb}
 use native.Mathlib.Decide.{dec_lt}
 use lib.Arith.{digits_lt}
+use Rattle.std.proofs.lemmas.List.{get_or_past}
 use Rattle.block.specs.Rows.{bit, tab, is_one, bit_of}
 use Rattle.block.proofs.Places.{place_low, place_high, place_past, zero_place}
 use Rattle.block.proofs.Rows.{bit_tab, tab_is}
@@ -45,30 +46,25 @@ up_before m bytes p l = ap (λ t. cond t (get_or bytes p 0) 0) (lt-ltb p m l)
 up_past : (m : ℕ) (bytes : List ℕ) (p : ℕ) → m ≤ p → up_to m bytes p ≡ 0
 up_past m bytes p l = ap (λ t. cond t (get_or bytes p 0) 0) (le-ltb p m l)
 
-get_d_past : (bytes : List ℕ) (p : ℕ) → length bytes ≤ p → get_or bytes p 0 ≡ 0
-get_d_past [] p l = refl
-get_d_past (x ∷ bytes) zero l = absurd (omega arith)
-get_d_past (x ∷ bytes) (suc p) l = get_d_past bytes p (omega arith)
-
-pub record Turned {B : Type 0} (row : B → List Bool) (w : ℕ) (bytes : List ℕ) (i : ℕ) (old table : List B) (gathered : ℕ) : Type 0 where
+pub record Turned {B : Type 0} (row : B → List Bool) (w : ℕ) (bytes : List ℕ) (i : ℕ) (table : List B) (gathered : ℕ) : Type 0 where
   pub small : gathered < 2 ^ (8 * (i % 8))
   pub part : (n j : ℕ) → n < i % 8 → j < 8 → bit_of gathered (8 * n + j) ≡ bit_of (get_or bytes (8 * (i / 8) + n) 0) j
   pub done : (j p : ℕ) → j < 8 → p < w → bit (rows row table j) p ≡ bit_of (up_to (8 * (i / 8)) bytes p) j
-  pub later : drop 8 table ≡ drop 8 old
+  pub eight : length table ≡ 8
 
-module _ {B : Type 0} (row : B → List Bool) (w : ℕ) (bytes : List ℕ) (old : List B) where
-  pub begun : ((j : ℕ) → j < 8 → rows row old j ≡ tab w (λ i. false)) → Turned row w bytes 0 old old 0
-  begun h =
+module _ {B : Type 0} (row : B → List Bool) (w : ℕ) (bytes : List ℕ) where
+  pub begun : (table : List B) → length table ≡ 8 → ((j : ℕ) → j < 8 → rows row table j ≡ tab w (λ i. false)) → Turned row w bytes 0 table 0
+  begun table eight h =
       record {
         small = omega arith;
         part = λ n j l. absurd (omega arith);
         done =
             λ j p hj hp.
             ap (λ r. bit r p) (h j hj) ∙ bit_tab w (λ i. false) p hp ∙ sym (ap (λ b. bit_of b j) (up_past 0 bytes p (omega arith)) ∙ bit_zero j);
-        later = refl;
+        eight = eight;
       }
 
-  module _ (i : ℕ) (table : List B) (gathered : ℕ) (T : Turned row w bytes i old table gathered) where
+  module _ (i : ℕ) (table : List B) (gathered : ℕ) (T : Turned row w bytes i table gathered) where
     -- a group of s bytes is delivered at k, and no byte stands behind them
     module _ (s : ℕ) (g : ℕ) (m : ℕ) (next : List B) (few : s ≤ 8)
         (small : g < 2 ^ (8 * s)) (part : (n j : ℕ) → n < s → j < 8 → bit_of g (8 * n + j) ≡ bit_of (get_or bytes (8 * (i / 8) + n) 0) j)
@@ -120,7 +116,7 @@ module _ {B : Type 0} (row : B → List Bool) (w : ℕ) (bytes : List ℕ) (old 
       pub turn_fits : more < 2 ^ 64
       turn_fits = packed_fits gathered (get_or bytes i 0) (i % 8) T.small byte low
 
-      pub turn_part : (i % 8 ≡ 7 → ⊥) → Turned row w bytes (i + 1) old table more
+      pub turn_part : (i % 8 ≡ 7 → ⊥) → Turned row w bytes (i + 1) table more
       turn_part h =
           let a : i % 8 + 1 ≡ (i + 1) % 8 = omega arith in
           let b : i / 8 ≡ (i + 1) / 8 = omega arith in
@@ -128,14 +124,14 @@ module _ {B : Type 0} (row : B → List Bool) (w : ℕ) (bytes : List ℕ) (old 
             small = subst (λ s. more < 2 ^ (8 * s)) a (packed_lt gathered (get_or bytes i 0) (i % 8) T.small byte low);
             part = λ n j l hj. more_part n j (omega arith) hj ∙ ap (λ k. bit_of (get_or bytes (8 * k + n) 0) j) b;
             done = λ j p hj hp. T.done j p hj hp ∙ ap (λ k. bit_of (up_to (8 * k) bytes p) j) b;
-            later = T.later;
+            eight = T.eight;
           }
 
-      pub turn_full : i % 8 ≡ 7 → (next : List B)
+      pub turn_full : i % 8 ≡ 7 → (next : List B) → length next ≡ 8
           → ((j n : ℕ) → j < 8 → n < 8 → bit (rows row next j) (8 * (i / 8) + n) ≡ bit_of more (8 * n + j))
           → ((j p : ℕ) → j < 8 → (p < 8 * (i / 8)) ⊎ (8 * (i / 8) + 8 ≤ p) → bit (rows row next j) p ≡ bit (rows row table j) p)
-          → drop 8 next ≡ drop 8 table → Turned row w bytes (i + 1) old next 0
-      turn_full h next inside outside later =
+          → Turned row w bytes (i + 1) next 0
+      turn_full h next eight inside outside =
           let z : (i + 1) % 8 ≡ 0 = omega arith in
           let s : i % 8 + 1 ≡ 8 = omega arith in
           let m : 8 * (i / 8) + 8 ≡ 8 * ((i + 1) / 8) = omega arith in
@@ -147,25 +143,25 @@ module _ {B : Type 0} (row : B → List Bool) (w : ℕ) (bytes : List ℕ) (old 
                 delivered 8 more 0 next (omega arith) (subst (λ n. more < 2 ^ (8 * n)) s (packed_lt gathered (get_or bytes i 0) (i % 8) T.small byte low))
                 (λ n j l. more_part n j (omega arith)) inside outside (up_to (8 * (i / 8) + 8) bytes) (up_before (8 * (i / 8) + 8) bytes) (up_past (8 * (i / 8) + 8) bytes) j p hj hp
                 ∙ ap (λ x. bit_of (up_to x bytes p) j) m;
-            later = later ∙ T.later;
+            eight = eight;
           }
 
     -- the end
     module _ (all : i ≡ length bytes) (wide : (b : B) → length (row b) ≡ w) where
-      as_row : (next : List B) → 8 ≤ length next → ((j p : ℕ) → j < 8 → p < w → bit (rows row next j) p ≡ bit_of (get_or bytes p 0) j) → (j : ℕ) → j < 8 → rows row next j ≡ basis w bytes j
+      as_row : (next : List B) → length next ≡ 8 → ((j p : ℕ) → j < 8 → p < w → bit (rows row next j) p ≡ bit_of (get_or bytes p 0) j) → (j : ℕ) → j < 8 → rows row next j ≡ basis w bytes j
       as_row next eight h j hj = tab_is (rows row next j) w (λ p. bit_of (get_or bytes p 0) j) (rows_wide row w wide next j (omega arith)) (λ p hp. h j p hj hp)
 
-      pub end_whole : 8 ≤ length table → i % 8 ≡ 0 → (j : ℕ) → j < 8 → rows row table j ≡ basis w bytes j
-      end_whole eight h = as_row table eight (λ j p hj hp. T.done j p hj hp ∙ ap (λ b. bit_of b j) (same p))
+      pub end_whole : i % 8 ≡ 0 → (j : ℕ) → j < 8 → rows row table j ≡ basis w bytes j
+      end_whole h = as_row table T.eight (λ j p hj hp. T.done j p hj hp ∙ ap (λ b. bit_of b j) (same p))
         where
           same : (p : ℕ) → up_to (8 * (i / 8)) bytes p ≡ get_or bytes p 0
           same p =
               elim (dec_lt p (8 * (i / 8))) [
                 | yes u ↦ up_before (8 * (i / 8)) bytes p u
-                | no u ↦ up_past (8 * (i / 8)) bytes p (omega arith) ∙ sym (get_d_past bytes p (omega arith))
+                | no u ↦ up_past (8 * (i / 8)) bytes p (omega arith) ∙ sym (get_or_past bytes p 0 (omega arith))
               ]
 
-      pub end_part : (next : List B) → 8 ≤ length next
+      pub end_part : (next : List B) → length next ≡ 8
           → ((j n : ℕ) → j < 8 → n < 8 → bit (rows row next j) (8 * (length bytes / 8) + n) ≡ bit_of gathered (8 * n + j))
           → ((j p : ℕ) → j < 8 → (p < 8 * (length bytes / 8)) ⊎ (8 * (length bytes / 8) + 8 ≤ p) → bit (rows row next j) p ≡ bit (rows row table j) p)
           → (j : ℕ) → j < 8 → rows row next j ≡ basis w bytes j
@@ -174,4 +170,4 @@ module _ {B : Type 0} (row : B → List Bool) (w : ℕ) (bytes : List ℕ) (old 
           (delivered (i % 8) gathered 0 next (omega arith) T.small T.part
           (subst (λ n. (j m : ℕ) → j < 8 → m < 8 → bit (rows row next j) (8 * (n / 8) + m) ≡ bit_of gathered (8 * m + j)) (sym all) inside)
           (subst (λ n. (j p : ℕ) → j < 8 → (p < 8 * (n / 8)) ⊎ (8 * (n / 8) + 8 ≤ p) → bit (rows row next j) p ≡ bit (rows row table j) p) (sym all) outside)
-          (λ p. get_or bytes p 0) (λ p l. refl) (λ p l. get_d_past bytes p (omega arith)))
+          (λ p. get_or bytes p 0) (λ p l. refl) (λ p l. get_or_past bytes p 0 (omega arith)))

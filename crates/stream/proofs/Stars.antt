@@ -1,15 +1,16 @@
 -- What MatchStar's sum shows. Assumes nothing.
-use Rattle.std.proofs.Common.{◌≡◌, ℕ, zero, suc, ◌<◌, ◌≤◌, Bool, true, false, ◌&&◌, ◌||◌, ◌⊎◌, List, length, sym, refl, ap, ◌∙◌, subst, ap₂, inl, inr, arith}
+use Rattle.std.proofs.Common.{◌≡◌, ℕ, zero, suc, ◌<◌, ◌≤◌, Bool, true, false, ◌&&◌, ◌||◌, List, length, sym, refl, ap, ◌∙◌, subst, ap₂, inl, inr, arith}
 use native.Mathlib.Decide.{dec_lt}
+use Rattle.std.proofs.lemmas.Bool.{and_parts, or_cases, or_left, or_right}
 use Rattle.block.specs.Rows.{bit, tab, row_of}
 use Rattle.block.specs.Calls.{differ, and_row, or_row, xor_row, Add}
 use Rattle.block.specs.Sums.{over, sum, sum_row, sum_out}
-use Rattle.block.proofs.Rows.{wrong, bit_tab, bit_past}
+use Rattle.block.proofs.Rows.{bit_tab, bit_past}
 use Rattle.block.proofs.Sums.{sums_agree_lem}
 use Rattle.stream.specs.MatchStar.{star_row, star_out, Through, Reached, Star, Examples}
 
 -- the carry that the sum hands on, and the bit that it shows, at one place
-thread : (m c k : Bool) → (((m && c) && c) || (((m && c) || c) && k)) ≡ (c && (m || k))
+pub thread : (m c k : Bool) → (((m && c) && c) || (((m && c) || c) && k)) ≡ (c && (m || k))
 thread true true true = refl
 thread true true false = refl
 thread true false true = refl
@@ -19,7 +20,7 @@ thread false true false = refl
 thread false false true = refl
 thread false false false = refl
 
-shown : (m c k : Bool) → (differ (differ (differ (m && c) c) k) c || m) ≡ (m || k)
+pub shown : (m c k : Bool) → (differ (differ (differ (m && c) c) k) c || m) ≡ (m || k)
 shown true true true = refl
 shown true true false = refl
 shown true false true = refl
@@ -28,21 +29,6 @@ shown false true true = refl
 shown false true false = refl
 shown false false true = refl
 shown false false false = refl
-
-and_true : (x y : Bool) → (x && y) ≡ true → (x ≡ true) × (y ≡ true)
-and_true true y e = (refl, e)
-and_true false y e = wrong e
-
-or_true : (x y : Bool) → (x || y) ≡ true → (x ≡ true) ⊎ (y ≡ true)
-or_true true y e = inl refl
-or_true false y e = inr e
-
-or_late : (x y : Bool) → y ≡ true → (x || y) ≡ true
-or_late true y e = refl
-or_late false y e = e
-
-or_early : (x y : Bool) → x ≡ true → (x || y) ≡ true
-or_early x y e = ap (λ z. z || y) e
 
 module _ (w : ℕ) (marks class : List Bool) (carry : Bool) (wide : length marks ≡ w) where
   -- whether place p is reached from before it
@@ -83,28 +69,28 @@ module _ (w : ℕ) (marks class : List Bool) (carry : Bool) (wide : length marks
   unfolding into over
   reached_into zero l e = inr (e, λ q f u. absurd (omega arith))
   reached_into (suc p) l e =
-      let x = and_true (bit class p) (bit marks p || into p) (sym (into_next p (omega arith)) ∙ e) in
-      further p x.0 (elim (or_true (bit marks p) (into p) x.1) [ inl m ↦ own p m | inr k ↦ reached_into p (omega arith) k ])
+      let x = and_parts (bit class p) (bit marks p || into p) (sym (into_next p (omega arith)) ∙ e) in
+      further p x.0 (elim (or_cases (bit marks p) (into p) x.1) [ inl m ↦ own p m | inr k ↦ reached_into p (omega arith) k ])
 
   step : (p : ℕ) → p < w → bit class p ≡ true → (bit marks p || into p) ≡ true → into (suc p) ≡ true
   step p l c h = into_next p l ∙ ap₂ ◌&&◌ c h
 
   -- from a mark at s, or from the carry at place 0
   from_mark : (p s : ℕ) → p ≤ w → s ≤ p → bit marks s ≡ true → Through class s p → (bit marks p || into p) ≡ true
-  from_mark zero s l f m t = let e : s ≡ 0 = omega arith in or_early (bit marks 0) (into 0) (subst (λ x. bit marks x ≡ true) e m)
+  from_mark zero s l f m t = let e : s ≡ 0 = omega arith in or_left (bit marks 0) (into 0) (subst (λ x. bit marks x ≡ true) e m)
   from_mark (suc p) s l f m t =
       elim (dec_lt p s) [
-        | yes u ↦ let e : s ≡ suc p = omega arith in or_early (bit marks (suc p)) (into (suc p)) (subst (λ x. bit marks x ≡ true) e m)
+        | yes u ↦ let e : s ≡ suc p = omega arith in or_left (bit marks (suc p)) (into (suc p)) (subst (λ x. bit marks x ≡ true) e m)
         | no u ↦
-            or_late (bit marks (suc p)) (into (suc p))
+            or_right (bit marks (suc p)) (into (suc p))
             (step p (omega arith) (t p (omega arith) (omega arith)) (from_mark p s (omega arith) (omega arith) m (λ q a b. t q a (omega arith))))
       ]
 
   from_carry : (p : ℕ) → p ≤ w → carry ≡ true → Through class 0 p → (bit marks p || into p) ≡ true
   unfolding into over
-  from_carry zero l k t = or_late (bit marks 0) carry k
+  from_carry zero l k t = or_right (bit marks 0) carry k
   from_carry (suc p) l k t =
-      or_late (bit marks (suc p)) (into (suc p))
+      or_right (bit marks (suc p)) (into (suc p))
       (step p (omega arith) (t p (omega arith) (omega arith)) (from_carry p (omega arith) k (λ q a b. t q a (omega arith))))
 
   to_bit : (p : ℕ) → p ≤ w → Reached marks class carry p → (bit marks p || into p) ≡ true
@@ -112,7 +98,7 @@ module _ (w : ℕ) (marks class : List Bool) (carry : Bool) (wide : length marks
   to_bit p l (inr (k, t)) = from_carry p l k t
 
   from_bit : (p : ℕ) → p ≤ w → (bit marks p || into p) ≡ true → Reached marks class carry p
-  from_bit p l e = elim (or_true (bit marks p) (into p) e) [ inl m ↦ own p m | inr k ↦ reached_into p l k ]
+  from_bit p l e = elim (or_cases (bit marks p) (into p) e) [ inl m ↦ own p m | inr k ↦ reached_into p l k ]
 
   -- no mark stands behind the row
   at_end : (bit marks w || into w) ≡ into w

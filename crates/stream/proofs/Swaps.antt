@@ -1,8 +1,9 @@
 -- The three swaps of `spread`. Assumes nothing.
-use Rattle.std.proofs.Common.{◌≡◌, ℕ, zero, suc, ◌+◌, ◌-◌, ◌*◌, ◌/◌, ◌%◌, ◌^◌, ◌<◌, Bool, true, false, cond, not, ◌&&◌, eqb, ltb, leb, sym, refl, ap, ◌∙◌, subst, ap₂, div-add-mod', arith, pow_pos, shr-shr, ltb-true, eqb-true, le-leb, leb-true}
+use Rattle.std.proofs.Common.{◌≡◌, ℕ, ◌+◌, ◌-◌, ◌*◌, ◌/◌, ◌%◌, ◌^◌, ◌<◌, Bool, true, false, cond, not, ◌&&◌, eqb, ltb, leb, sym, refl, ap, ◌∙◌, ap₂, div-add-mod', arith, pow_pos, shr-shr, ltb-true, eqb-true, le-leb, leb-true}
 use native.Mathlib.Decide.{dec_lt}
 use lib.Bits.{bit_and, bit_xor}
-use borrow.Author.Tests.{lt-leb}
+use Rattle.std.proofs.Math.Bool.{and-false, and-true}
+use Rattle.std.proofs.lemmas.Bool.{and_parts, lt-leb, agree_below, agree_below_at}
 use Rattle.block.specs.Rows.{is_one, bit_of}
 use Rattle.block.specs.Calls.{differ}
 use Rattle.block.proofs.Places.{place_low, place_high, zero_place}
@@ -61,47 +62,25 @@ swap_back true false = refl
 swap_back false true = refl
 swap_back false false = refl
 
-and_none : (x : Bool) → (x && false) ≡ false
-and_none true = refl
-and_none false = refl
-
-and_all : (x : Bool) → (x && true) ≡ x
-and_all true = refl
-and_all false = refl
-
 module _ (mask step : ℕ) (f : ℕ → Bool) (p : ℕ) where
   cases : (m t n : Bool) → leb step p ≡ t → not (m && (t && n)) ≡ true
       → differ (differ (f p) (differ (f p) (f (step + p)) && m)) (t && (differ (f (p - step)) (f (step + (p - step))) && n)) ≡ f (cond m (step + p) (cond (t && n) (p - step) p))
   cases true true true h e = wrong e
-  cases true true false h e = ap₂ (λ x y. differ (differ (f p) x) y) (and_all (differ (f p) (f (step + p)))) (and_none (differ (f (p - step)) (f (step + (p - step))))) ∙ swap_here (f p) (f (step + p))
-  cases true false n h e = ap (λ x. differ (differ (f p) x) false) (and_all (differ (f p) (f (step + p)))) ∙ swap_here (f p) (f (step + p))
+  cases true true false h e = ap₂ (λ x y. differ (differ (f p) x) y) (and-true (differ (f p) (f (step + p)))) (and-false (differ (f (p - step)) (f (step + (p - step))))) ∙ swap_here (f p) (f (step + p))
+  cases true false n h e = ap (λ x. differ (differ (f p) x) false) (and-true (differ (f p) (f (step + p)))) ∙ swap_here (f p) (f (step + p))
   cases false true true h e =
       let l = leb-true step p h in
       let q : step + (p - step) ≡ p = omega arith in
-      ap₂ (λ x y. differ (differ (f p) x) y) (and_none (differ (f p) (f (step + p)))) (and_all (differ (f (p - step)) (f (step + (p - step)))) ∙ ap (λ n. differ (f (p - step)) (f n)) q)
+      ap₂ (λ x y. differ (differ (f p) x) y) (and-false (differ (f p) (f (step + p)))) (and-true (differ (f (p - step)) (f (step + (p - step)))) ∙ ap (λ n. differ (f (p - step)) (f n)) q)
       ∙ swap_back (f (p - step)) (f p)
-  cases false true false h e = ap₂ (λ x y. differ (differ (f p) x) y) (and_none (differ (f p) (f (step + p)))) (and_none (differ (f (p - step)) (f (step + (p - step))))) ∙ swap_none (f p)
-  cases false false n h e = ap (λ x. differ (differ (f p) x) false) (and_none (differ (f p) (f (step + p)))) ∙ swap_none (f p)
+  cases false true false h e = ap₂ (λ x y. differ (differ (f p) x) y) (and-false (differ (f p) (f (step + p)))) (and-false (differ (f (p - step)) (f (step + (p - step))))) ∙ swap_none (f p)
+  cases false false n h e = ap (λ x. differ (differ (f p) x) false) (and-false (differ (f p) (f (step + p)))) ∙ swap_none (f p)
 
   swapped_is : clear mask step p ≡ true → swapped mask step f p ≡ f (source mask step p)
   unfolding clear source
   swapped_is e = cases (bit_of mask p) (leb step p) (bit_of mask (p - step)) refl e
 
 -- ---- the three together, tested at each of the 64 places
-
-both : (x y : Bool) → (x && y) ≡ true → (x ≡ true) × (y ≡ true)
-both true y e = (refl, e)
-both false y e = wrong e
-
-abbrev every : ℕ → (ℕ → Bool) → Bool
-every zero test = true
-every (suc n) test = test n && every n test
-
-every_at : (n : ℕ) (test : ℕ → Bool) → every n test ≡ true → (i : ℕ) → i < n → test i ≡ true
-every_at zero test e i l = absurd (omega arith)
-every_at (suc n) test e i l =
-    let b = both (test n) (every n test) e in
-    elim (dec_lt i n) [ yes u ↦ every_at n test b.1 i u | no u ↦ let q : n ≡ i = omega arith in subst (λ k. test k ≡ true) q b.0 ]
 
 -- the place that a place of the second swap, and of the last, comes from
 second : ℕ → ℕ
@@ -116,7 +95,7 @@ test p =
     && ((clear 0x0000_cccc_0000_cccc 14 (third p) && ltb (second (third p)) 64)
     && (clear 0x00aa_00aa_00aa_00aa 7 (second (third p)) && eqb (source 0x00aa_00aa_00aa_00aa 7 (second (third p))) (8 * (p % 8) + p / 8)))
 
-all_tested : every 64 test ≡ true
+all_tested : agree_below test (λ _. true) 64 ≡ true
 unfolding test second third clear source
 all_tested = refl
 
@@ -127,11 +106,11 @@ module _ (x pairs fours r : ℕ → Bool)
   at : (p : ℕ) → p < 64 → test p ≡ true → r p ≡ x (8 * (p % 8) + p / 8)
   unfolding test second third
   at p l e =
-      let a = both _ _ e in
-      let b = both _ _ a.0 in
-      let c = both _ _ a.1 in
-      let d = both _ _ c.0 in
-      let f = both _ _ c.1 in
+      let a = and_parts _ _ e in
+      let b = and_parts _ _ a.0 in
+      let c = and_parts _ _ a.1 in
+      let d = and_parts _ _ c.0 in
+      let f = and_parts _ _ c.1 in
       er p l ∙ swapped_is 0x0000_0000_f0f0_f0f0 28 fours p b.0
       ∙ ef (third p) (ltb-true (third p) 64 b.1) ∙ swapped_is 0x0000_cccc_0000_cccc 14 pairs (third p) d.0
       ∙ ep (second (third p)) (ltb-true (second (third p)) 64 d.1) ∙ swapped_is 0x00aa_00aa_00aa_00aa 7 x (second (third p)) f.0
@@ -141,4 +120,4 @@ module _ (x pairs fours r : ℕ → Bool)
   spread_bits j n hj hn =
       let l : 8 * j + n < 64 = omega arith in
       let e : 8 * ((8 * j + n) % 8) + (8 * j + n) / 8 ≡ 8 * n + j = omega arith in
-      at (8 * j + n) l (every_at 64 test all_tested (8 * j + n) l) ∙ ap x e
+      at (8 * j + n) l (agree_below_at test (λ _. true) 64 (8 * j + n) all_tested l) ∙ ap x e

@@ -4,7 +4,6 @@
 
 mod classes;
 mod set;
-mod sets;
 mod spread;
 mod star;
 mod transposition;

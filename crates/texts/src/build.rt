@@ -1,45 +1,26 @@
 // Texts that are too long to be written out.
 use std::alloc::{AllocError, Global};
 
-fn repeat(out: &mut Vec<u8>, part: &[u8], times: u32) -> Result<(), AllocError> {
-    for _ in 0..times {
-        out.extend_from_slice(part)?;
-    }
-    Ok(())
-}
-
 // A quote of that many bytes.
-pub fn quoted(heap: Global, bytes: u32) -> Result<Vec<u8>, AllocError> {
-    let mut out = Vec::new(heap);
-    out.extend_from_slice(b"(seek \"")?;
-    repeat(&mut out, b"#", bytes)?;
-    out.extend_from_slice(b"\")")?;
-    Ok(out)
+pub fn quoted(heap: Global, bytes: usize) -> Result<String, AllocError> {
+    let quote = "#".repeat(heap, bytes)?;
+    format!(in heap; "(seek \"{quote}\")")
 }
 
 // That many seqs, each in the one before.
-pub fn nested(heap: Global, depth: u32) -> Result<Vec<u8>, AllocError> {
-    let mut out = Vec::new(heap);
-    out.extend_from_slice(b"(seek ")?;
-    repeat(&mut out, b"(seq ", depth)?;
-    repeat(&mut out, b")", depth)?;
-    out.extend_from_slice(b")")?;
-    Ok(out)
+pub fn nested(heap: Global, depth: usize) -> Result<String, AllocError> {
+    let open = "(seq ".repeat(heap, depth)?;
+    let close = ")".repeat(heap, depth)?;
+    format!(in heap; "(seek {open}{close})")
 }
 
 // A text of that many bytes, mostly spaces.
-pub fn padded(heap: Global, bytes: u32) -> Result<Vec<u8>, AllocError> {
-    let mut out = Vec::new(heap);
-    out.extend_from_slice(b"(seek (seq))")?;
-    repeat(&mut out, b" ", bytes.saturating_sub(12))?;
-    Ok(out)
+pub fn padded(heap: Global, bytes: usize) -> Result<String, AllocError> {
+    format!(in heap; "{:<bytes$}", "(seek (seq))")
 }
 
 // A set of that many items.
-pub fn bare(heap: Global, items: u32) -> Result<Vec<u8>, AllocError> {
-    let mut out = Vec::new(heap);
-    out.extend_from_slice(b"(seek (set")?;
-    repeat(&mut out, b" 61", items)?;
-    out.extend_from_slice(b"))")?;
-    Ok(out)
+pub fn bare(heap: Global, items: usize) -> Result<String, AllocError> {
+    let items = " 61".repeat(heap, items)?;
+    format!(in heap; "(seek (set{items}))")
 }

@@ -4,8 +4,9 @@
 
 use crate::build::{bare, nested, padded, quoted};
 use crate::random::round_trips;
-use crate::render::render;
+use crate::render::Written;
 use compiler::read_text;
+use refusal::Refusal;
 use std::io;
 use tree::store::Tree;
 
@@ -13,133 +14,127 @@ mod build;
 mod random;
 mod render;
 
-// One line of the account: what became of the text.
-fn tell(rt: &HostRuntime, tree: &mut Tree, name: &str, text: &[u8]) -> io::Result<()> {
-    match read_text(text, tree) {
-        Ok(t) => {
-            let mut out = Vec::new(rt.alloc());
-            render(tree, t.root, &mut out)?;
-            let form = String::from_utf8_lossy(rt.alloc(), out.as_slice())?;
-            let weight = t.weight;
+// The longest text whose form is printed, in bytes.
+const SHOWN: usize = 80;
+
+// One line of the account: what became of the text. The runtime and the tree are lent side by side, here and below: the form that is
+// printed borrows the tree while the runtime prints.
+fn tell(rt: &HostRuntime, tree: &mut Tree, name: &str, text: &str) -> io::Result<()> {
+    match read_text(text.as_bytes(), tree) {
+        Ok(taken) => {
+            let weight = taken.weight;
+            if text.len() > SHOWN {
+                return println!(rt; "{name} -> weighs {weight}");
+            }
+            let form = Written {
+                tree,
+                root: taken.root,
+            };
             println!(rt; "{name} -> weighs {weight}: {form}")
         }
-        Err(e) => {
-            let number = e.number();
-            let place = e.place().unwrap_or(0);
+        Err(refusal) => {
+            let number = refusal.number();
+            let place = refusal.place().unwrap_or(0);
             println!(rt; "{name} -> declined {number} {place}")
         }
     }
 }
 
+// A line for a text that names itself.
 fn show(rt: &HostRuntime, tree: &mut Tree, text: &str) -> io::Result<()> {
-    tell(rt, tree, text, text.as_bytes())
-}
-
-// A line for a text too long to print: only its fate.
-fn fate(rt: &HostRuntime, tree: &mut Tree, name: &str, text: &[u8]) -> io::Result<()> {
-    match read_text(text, tree) {
-        Ok(t) => {
-            let weight = t.weight;
-            println!(rt; "{name} -> weighs {weight}")
-        }
-        Err(e) => {
-            let number = e.number();
-            let place = e.place().unwrap_or(0);
-            println!(rt; "{name} -> declined {number} {place}")
-        }
-    }
+    tell(rt, tree, text, text)
 }
 
 fn read_ones(rt: &HostRuntime, tree: &mut Tree) -> io::Result<()> {
-    show(rt, tree, "(seek \"\")")?;
-    show(rt, tree, "  ( seek \"a b\" )  ")?;
-    show(rt, tree, "(seek(seq(start)(star\"#\")(end)))")?;
-    show(rt, tree, "(seek (seq \".\" (rep 2 3 \"#\") \".\"))")?;
-    show(rt, tree, "(seek (out 2E))")?;
-    show(rt, tree, "(seek (out))")?;
-    show(rt, tree, "(seek (set 61-7A 20 0A))")?;
-    show(rt, tree, "(seek (or (seq) \"a\" (set FF)))")?;
-    show(rt, tree, "(seek (star (star \"a\")))")?;
-    show(
-        rt,
-        tree,
-        "(seek (rep 0 0 (rep 255 255 (rep 255 255 \"abc\"))))",
-    )?;
-    show(rt, tree, "(seek (rep 0 255 (seq \"a\")))")?;
-    show(rt, tree, "(seek (rep 007 9 (end)))")?;
-    tell(rt, tree, "(seek \"a\") and a line feed", b"(seek \"a\")\n")
+    for text in [
+        r#"(seek "")"#,
+        r#"  ( seek "a b" )  "#,
+        r##"(seek(seq(start)(star"#")(end)))"##,
+        r##"(seek (seq "." (rep 2 3 "#") "."))"##,
+        "(seek (out 2E))",
+        "(seek (out))",
+        "(seek (set 61-7A 20 0A))",
+        r#"(seek (or (seq) "a" (set FF)))"#,
+        r#"(seek (star (star "a")))"#,
+        r#"(seek (rep 0 0 (rep 255 255 (rep 255 255 "abc"))))"#,
+        r#"(seek (rep 0 255 (seq "a")))"#,
+        "(seek (rep 007 9 (end)))",
+    ] {
+        show(rt, tree, text)?;
+    }
+    tell(rt, tree, r#"(seek "a") and a line feed"#, "(seek \"a\")\n")
 }
 
 fn unexpected_ones(rt: &HostRuntime, tree: &mut Tree) -> io::Result<()> {
     show(rt, tree, "")?;
-    tell(rt, tree, "a lone line feed", b"\n")?;
-    tell(rt, tree, "(seek and a line feed", b"(seek\n")?;
-    show(rt, tree, "(seek)")?;
-    show(rt, tree, "(seek (set))")?;
-    show(rt, tree, "(seek (or))")?;
-    show(rt, tree, "(seek (star \"a\" \"b\"))")?;
-    show(rt, tree, "(seek (set 7A-6))")?;
-    show(rt, tree, "(seek (set 7a))")?;
-    show(rt, tree, "(seek (rep 1000 2 \"a\"))")?;
-    show(rt, tree, "(seek (rep 1 (seq)))")?;
-    show(rt, tree, "(seek (sequence \"a\"))")?;
-    show(rt, tree, "(seek \"a\") \"b\"")?;
-    show(rt, tree, "(seek \"a\"))")
+    tell(rt, tree, "a lone line feed", "\n")?;
+    tell(rt, tree, "(seek and a line feed", "(seek\n")?;
+    for text in [
+        "(seek)",
+        "(seek (set))",
+        "(seek (or))",
+        r#"(seek (star "a" "b"))"#,
+        "(seek (set 7A-6))",
+        "(seek (set 7a))",
+        r#"(seek (rep 1000 2 "a"))"#,
+        "(seek (rep 1 (seq)))",
+        r#"(seek (sequence "a"))"#,
+        r#"(seek "a") "b""#,
+        r#"(seek "a"))"#,
+    ] {
+        show(rt, tree, text)?;
+    }
+    Ok(())
 }
 
 fn other_ones(rt: &HostRuntime, tree: &mut Tree) -> io::Result<()> {
-    show(rt, tree, "(seek \"a")?;
-    show(rt, tree, "(seek #)")?;
-    show(rt, tree, "(seek) #")?;
-    tell(rt, tree, "a line feed inside", b"(seek\n\"a\")")?;
-    tell(rt, tree, "a line feed in a quote", b"(seek \"a\nb\")")?;
-    tell(rt, tree, "two final line feeds", b"(seek \"a\")\n\n")?;
-    show(rt, tree, "(seek (set 7A-61))")?;
-    show(rt, tree, "(seek (out 00 61 7A-79 #))")?;
-    show(rt, tree, "(seek (rep 0 255 (end)))")?;
-    show(rt, tree, "(seek (rep 256 300 (end)))")?;
-    show(rt, tree, "(seek (rep 2 256 (end)))")?;
-    show(rt, tree, "(seek (rep 3 2 (end)))")?;
-    show(
-        rt,
-        tree,
-        "(seek (rep 255 255 (rep 255 255 (rep 255 255 (rep 255 255 \"abc\")))))",
-    )
+    for text in [r#"(seek "a"#, "(seek #)", "(seek) #"] {
+        show(rt, tree, text)?;
+    }
+    tell(rt, tree, "a line feed inside", "(seek\n\"a\")")?;
+    tell(rt, tree, "a line feed in a quote", "(seek \"a\nb\")")?;
+    tell(rt, tree, "two final line feeds", "(seek \"a\")\n\n")?;
+    for text in [
+        "(seek (set 7A-61))",
+        "(seek (out 00 61 7A-79 #))",
+        "(seek (rep 0 255 (end)))",
+        "(seek (rep 256 300 (end)))",
+        "(seek (rep 2 256 (end)))",
+        "(seek (rep 3 2 (end)))",
+        r#"(seek (rep 255 255 (rep 255 255 (rep 255 255 (rep 255 255 "abc")))))"#,
+    ] {
+        show(rt, tree, text)?;
+    }
+    Ok(())
 }
 
 fn long_ones(rt: &HostRuntime, tree: &mut Tree) -> io::Result<()> {
     let heap = rt.alloc();
-    let light = quoted(heap, 999)?;
-    fate(rt, tree, "a quote of 999 bytes", light.as_slice())?;
-    let heavy = quoted(heap, 1000)?;
-    fate(rt, tree, "a quote of 1000 bytes", heavy.as_slice())?;
-    let deep = nested(heap, 15)?;
-    fate(rt, tree, "fifteen seqs under seek", deep.as_slice())?;
-    let deeper = nested(heap, 16)?;
-    fate(rt, tree, "sixteen seqs under seek", deeper.as_slice())?;
-    let full = padded(heap, 4096)?;
-    fate(rt, tree, "4096 bytes", full.as_slice())?;
-    let fuller = padded(heap, 4097)?;
-    fate(rt, tree, "4097 bytes", fuller.as_slice())?;
-    let items = bare(heap, 1000)?;
-    fate(rt, tree, "a set of 1000 items", items.as_slice())
+    for (name, text) in [
+        ("a quote of 999 bytes", quoted(heap, 999)?),
+        ("a quote of 1000 bytes", quoted(heap, 1000)?),
+        ("fifteen seqs under seek", nested(heap, 15)?),
+        ("sixteen seqs under seek", nested(heap, 16)?),
+        ("4096 bytes", padded(heap, 4096)?),
+        ("4097 bytes", padded(heap, 4097)?),
+        ("a set of 1000 items", bare(heap, 1000)?),
+    ] {
+        tell(rt, tree, name, text.as_str())?;
+    }
+    Ok(())
 }
 
 // Every byte value as the only byte of a text.
 fn first_bytes(rt: &HostRuntime, tree: &mut Tree) -> io::Result<()> {
-    let mut counts = [0u32; 8];
-    for b in 0..=255u8 {
-        let text = [b];
-        let n = match read_text(&text, tree) {
-            Ok(_) => 0,
-            Err(e) => e.number(),
-        };
-        if n < 8 {
-            counts[n as usize] = counts[n as usize].wrapping_add(1);
+    let mut stray = 0u32;
+    let mut unexpected = 0u32;
+    for byte in 0..=255u8 {
+        match read_text(&[byte], tree) {
+            Err(Refusal::NoToken { .. }) => stray = stray.saturating_add(1),
+            Err(Refusal::UnexpectedToken { .. }) => unexpected = unexpected.saturating_add(1),
+            _ => {}
         }
     }
-    let stray = counts[3];
-    let unexpected = counts[4];
     println!(rt; "one byte -> {stray} times declined 3, {unexpected} times declined 4")
 }
 

@@ -1,118 +1,89 @@
 // Prints a form as a text.
-use std::alloc::AllocError;
+use std::fmt;
 use tree::node::{Node, Range};
 use tree::store::Tree;
 
-fn hex(out: &mut Vec<u8>, d: u8) -> Result<(), AllocError> {
-    let c = if d < 10 {
-        b'0' + d
-    } else {
-        b'A' + (d - 10).min(5)
-    };
-    out.push(c)?;
-    Ok(())
+// The form that a node of a tree stands for.
+#[derive(Clone, Copy)]
+pub struct Written<'a> {
+    pub tree: &'a Tree,
+    pub root: usize,
 }
 
-fn byte(out: &mut Vec<u8>, b: u8) -> Result<(), AllocError> {
-    hex(out, b / 16)?;
-    hex(out, b % 16)
-}
-
-fn item(out: &mut Vec<u8>, r: Range) -> Result<(), AllocError> {
-    out.push(b' ')?;
-    byte(out, r.low)?;
-    if r.high != r.low {
-        out.push(b'-')?;
-        byte(out, r.high)?;
+impl fmt::Display for Written<'_> {
+    fn fmt<W: fmt::Write>(&self, f: &mut fmt::Formatter<W>) -> fmt::Result {
+        form(self.tree, self.root, f)
     }
-    Ok(())
 }
 
-fn items(out: &mut Vec<u8>, name: &[u8], ranges: &[Range]) -> Result<(), AllocError> {
-    out.extend_from_slice(name)?;
-    for r in ranges {
-        item(out, *r)?;
+fn quote<W: fmt::Write>(bytes: &[u8], f: &mut fmt::Formatter<W>) -> fmt::Result {
+    write!(f, "\"")?;
+    for &byte in bytes {
+        write!(f, "{}", char::from(byte))?;
     }
-    out.push(b')')?;
-    Ok(())
+    write!(f, "\"")
 }
 
-fn number(out: &mut Vec<u8>, n: u8) -> Result<(), AllocError> {
-    if n >= 100 {
-        out.push(b'0' + n / 100)?;
+// The ranges of a set, each behind a blank, and the closing bracket.
+fn items<W: fmt::Write>(ranges: &[Range], f: &mut fmt::Formatter<W>) -> fmt::Result {
+    for &Range { low, high } in ranges {
+        write!(f, " {low:02X}")?;
+        if high != low {
+            write!(f, "-{high:02X}")?;
+        }
     }
-    if n >= 10 {
-        out.push(b'0' + n / 10 % 10)?;
-    }
-    out.push(b'0' + n % 10)?;
-    out.push(b' ')?;
-    Ok(())
+    write!(f, ")")
 }
 
-fn quote(out: &mut Vec<u8>, bytes: &[u8]) -> Result<(), AllocError> {
-    out.push(b'"')?;
-    out.extend_from_slice(bytes)?;
-    out.push(b'"')?;
-    Ok(())
-}
-
-#[cycle(last_list_render)]
-pub fn render(tree: &Tree, i: usize, out: &mut Vec<u8>) -> Result<(), AllocError> {
+#[cycle(form_list)]
+fn form<W: fmt::Write>(tree: &Tree, i: usize, f: &mut fmt::Formatter<W>) -> fmt::Result {
     let Some(node) = tree.node(i) else {
         return Ok(());
     };
     match node {
-        Node::Quote { from, to } => quote(out, tree.bytes(from, to)),
-        Node::Set { from, to } => items(out, b"(set", tree.ranges(from, to)),
-        Node::Out { from, to } => items(out, b"(out", tree.ranges(from, to)),
+        Node::Quote { from, to } => quote(tree.bytes(from, to), f),
+        Node::Set { from, to } => {
+            write!(f, "(set")?;
+            items(tree.ranges(from, to), f)
+        }
+        Node::Out { from, to } => {
+            write!(f, "(out")?;
+            items(tree.ranges(from, to), f)
+        }
         Node::Seq { parts } => {
-            out.extend_from_slice(b"(seq")?;
-            list(tree, parts, out)
+            write!(f, "(seq")?;
+            list(tree, parts, f)
         }
         Node::Or { parts } => {
-            out.extend_from_slice(b"(or")?;
-            list(tree, parts, out)
+            write!(f, "(or")?;
+            list(tree, parts, f)
         }
         Node::Star { part } => {
-            out.extend_from_slice(b"(star ")?;
-            last(tree, part, out)
+            write!(f, "(star ")?;
+            form(tree, part, f)?;
+            write!(f, ")")
         }
         Node::Rep { least, most, part } => {
-            out.extend_from_slice(b"(rep ")?;
-            number(out, least)?;
-            number(out, most)?;
-            last(tree, part, out)
+            write!(f, "(rep {least} {most} ")?;
+            form(tree, part, f)?;
+            write!(f, ")")
         }
-        Node::Start => out.extend_from_slice(b"(start)"),
-        Node::End => out.extend_from_slice(b"(end)"),
-        Node::Nil => Ok(()),
-        Node::Cons { head: _, tail: _ } => Ok(()),
+        Node::Start => write!(f, "(start)"),
+        Node::End => write!(f, "(end)"),
+        // a list is no form
+        Node::Nil | Node::Cons { .. } => Ok(()),
     }
 }
 
-// A form and its closing bracket.
-#[cycle(last_list_render)]
-fn last(tree: &Tree, i: usize, out: &mut Vec<u8>) -> Result<(), AllocError> {
-    render(tree, i, out)?;
-    out.push(b')')?;
-    Ok(())
-}
-
-// The forms of a list and its closing bracket.
-#[cycle(last_list_render)]
-fn list(tree: &Tree, i: usize, out: &mut Vec<u8>) -> Result<(), AllocError> {
-    let Some(node) = tree.node(i) else {
-        return Ok(());
-    };
-    match node {
-        Node::Cons { head, tail } => {
-            out.push(b' ')?;
-            render(tree, head, out)?;
-            list(tree, tail, out)
+// The forms of a list, each behind a blank, and the closing bracket.
+#[cycle(form_list)]
+fn list<W: fmt::Write>(tree: &Tree, i: usize, f: &mut fmt::Formatter<W>) -> fmt::Result {
+    match tree.node(i) {
+        Some(Node::Cons { head, tail }) => {
+            write!(f, " ")?;
+            form(tree, head, f)?;
+            list(tree, tail, f)
         }
-        _ => {
-            out.push(b')')?;
-            Ok(())
-        }
+        _ => write!(f, ")"),
     }
 }

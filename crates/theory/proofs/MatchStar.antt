@@ -1,6 +1,6 @@
 -- The sum gives the marks and the carry of `many C`. Assumes nothing.
 use mathlib.Core.Path.{◌≡◌, refl, sym, subst, ap, ◌∙◌}
-use mathlib.Core.Bool.{Bool, true, false, ◌&&◌, ◌||◌}
+use mathlib.Core.Bool.{Bool, ◌&&◌, ◌||◌}
 use mathlib.Core.List.{List}
 use mathlib.Core.Logic.{inl, inr}
 use Prim.Native.Nat.{ℕ, zero, suc, ◌+◌, ◌<◌, ◌≤◌}
@@ -13,31 +13,11 @@ use Rattle.block.specs.Sums.{over, sum, sum_row}
 use Rattle.block.proofs.Rows.{bit_tab}
 use Rattle.block.proofs.Sums.{over_ext}
 use Rattle.stream.specs.MatchStar.{star_row, star_out}
+use Rattle.stream.proofs.Stars.{thread, shown}
 use Rattle.theory.specs.Pattern.{Streams, many, Steps, stop, more, Takes}
 use Rattle.theory.specs.Block.{Cont, Reach, Has, class_row}
 use Rattle.theory.proofs.Reaching.{steps_join, steps_one, steps_le}
 use Rattle.form.proofs.Bits.{and_l, and_r, and_i, or_cases, or_l, or_r}
-
--- what the sum's bits are here
-thread : (m c k : Bool) → (((m && c) && c) || (((m && c) || c) && k)) ≡ (c && (m || k))
-thread true true true = refl
-thread true true false = refl
-thread true false true = refl
-thread true false false = refl
-thread false true true = refl
-thread false true false = refl
-thread false false true = refl
-thread false false false = refl
-
-shown : (m c k : Bool) → (differ (differ (differ (m && c) c) k) c || m) ≡ (m || k)
-shown true true true = refl
-shown true true false = refl
-shown true false true = refl
-shown true false false = refl
-shown false true true = refl
-shown false true false = refl
-shown false false true = refl
-shown false false false = refl
 
 module _ (t : Streams) (a W : ℕ) (C : ℕ) (k : Bool) (m : List Bool) where
   abbrev row_of_class : List Bool

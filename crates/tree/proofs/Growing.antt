@@ -2,6 +2,7 @@
 use Rattle.std.proofs.Common.{◌≡◌, ℕ, zero, suc, ◌+◌, ◌-◌, ◌<◌, ◌≤◌, true, List, [], ◌∷◌, ◌++◌, map, length, take, drop, Some, sym, refl, ap, ◌∙◌, append_assoc, append-nil, arith}
 use Rattle.std.specs.List.{slice_get}
 use Rattle.std.proofs.lemmas.List.{map-append, length-append, length-drop, drop-append-le, take-append-le, take_all, drop_at, length-map}
+use Rattle.std.proofs.lemmas.Option.{none-some, slice_get_within}
 use Rattle.std.proofs.lemmas.Bool.{lt-ltb, and_from}
 use Rattle.tree.specs.Nodes.{falls}
 use Rattle.form.specs.Form.{Form, Forms, Item, quote, set, out, seq, or, star, rep, start, end, nil, cons}
@@ -12,7 +13,7 @@ use Rattle.tree.specs.declared.store.Tree.{Tree}
 use Rattle.tree.specs.Stands.{nodes_of, bytes_of, ranges_of, item, Piece, Pieces, Holds, StandAll, Stands, Grows, Same, Pushed, Quoted}
 
 nth_more : {X : Type 0} (xs ys : List X) (i : ℕ) (x : X) → slice_get xs i ≡ Some x → slice_get (xs ++ ys) i ≡ Some x
-nth_more [] ys i x e = absurd (let z : ◌≡◌ {A = ℕ} 0 1 = cc in omega arith)
+nth_more [] ys i x e = absurd (none-some x e)
 nth_more (y ∷ xs) ys zero x e = e
 nth_more (y ∷ xs) ys (suc i) x e = nth_more xs ys i x e
 
@@ -109,17 +110,12 @@ ranged_pieces t u rs r =
     (omega arith, simp length-map (omega arith), e ∙ sym (take_all _ _ (simp (length-drop, length-map) (omega arith))))
 
 -- parts that stand in a tree stand before its end
-nth_within : {X : Type 0} (xs : List X) (i : ℕ) (x : X) → slice_get xs i ≡ Some x → i < length xs
-nth_within [] i x e = absurd (let z : ◌≡◌ {A = ℕ} 0 1 = cc in omega arith)
-nth_within (y ∷ xs) zero x e = omega arith
-nth_within (y ∷ xs) (suc i) x e = let h = nth_within xs i x e in omega arith
-
 pub stands_within : (t : Tree) (f : Form) (i : ℕ) → Stands t f i → i < length (nodes_of t)
-stands_within t f i h = nth_within (nodes_of t) i _ h.1
+stands_within t f i h = slice_get_within (nodes_of t) i _ h.1
 
 pub all_within : (t : Tree) (fs : Forms) (i : ℕ) → StandAll t fs i → i < length (nodes_of t)
-all_within t nil i h = nth_within (nodes_of t) i _ h
-all_within t (cons f fs) i h = nth_within (nodes_of t) i _ h.2
+all_within t nil i h = slice_get_within (nodes_of t) i _ h
+all_within t (cons f fs) i h = slice_get_within (nodes_of t) i _ h.2
 
 pub holds_falls : (t : Tree) (f : Form) (n : Node) → Holds t f n → falls n (length (nodes_of t)) ≡ true
 holds_falls t (quote bytes) n h = ap (λ v. falls v (length (nodes_of t))) h.2

@@ -1,3 +1,4 @@
 pub mod Falling
 pub mod Growing
 pub mod Only
+pub mod Shapes

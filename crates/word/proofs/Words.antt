@@ -1,62 +1,46 @@
 -- A word with one byte put in another's place, and a word without the places below i. Assumes nothing.
-use Rattle.std.proofs.Common.{◌≡◌, ℕ, suc, ◌+◌, ◌-◌, ◌*◌, ◌/◌, ◌%◌, ◌^◌, ◌<◌, ◌≤◌, false, Some, None, sym, ap, ◌∙◌, subst, mod-lt, add-mul, lt_of_not-le, div-add-mod', arith, pow_pos, pow-add, shl_exact, shr_lt}
-use lib.Arith.{digits_lt, digits_mod}
-use lib.Bits.{bit_and, and_high}
+use Rattle.std.proofs.Common.{◌≡◌, ℕ, suc, ◌+◌, ◌-◌, ◌*◌, ◌/◌, ◌%◌, ◌^◌, ◌<◌, ◌≤◌, false, Some, None, sym, ap, ◌∙◌, ap₂, subst, mod-lt, mod-eq_of_lt, pow_mono, add-mul, lt_of_not-le, div-add-mod', arith, pow_pos, pow-add, shl_exact}
+use lib.Bits.{bit_and, bit_or, and_block, and_high, and_mask, or_block, or_shifted, or_zero_r}
 use lib.Count.{count_trailing_zeros}
-use lib.Pow.{pow-lt, shr_mod, split}
+use lib.Pow.{shr_lt, shr_mod, split}
+use Rattle.std.proofs.lemmas.Nat.Bits.{ones_shl, and_high_mask}
 use Rattle.block.specs.Rows.{bit, is_one, row_of}
 use Rattle.block.specs.Calls.{First}
-use Rattle.block.proofs.Groups.{group, group_is, group_lt}
-use Rattle.block.proofs.Numbers.{bit_row}
+use Rattle.block.proofs.Groups.{group}
+use Rattle.block.proofs.Numbers.{bit_row, row_none, row_all, row_and, row_or, row_xor, row_not}
 use Rattle.block.proofs.Places.{place, trailing_below, trailing_one, trailing_lt, zero_place, place_kept, place_gone}
 
--- a byte where it goes
-pub shifted : (b k : ℕ) → b < 2 ^ 8 → k < 8 → (b * 2 ^ (8 * k)) % 2 ^ 64 ≡ b * 2 ^ (8 * k)
-shifted b k h l = shl_exact 8 (8 * k) 64 h (omega arith)
-
--- The quotient q by 2 ^ (8 k) is 256 h + the old byte.
-pub replaced : (x k b : ℕ) → x < 2 ^ 64 → k < 8 → b < 2 ^ 8
-    → (group x k * 2 ^ (8 * k) ≤ x) × (x - group x k * 2 ^ (8 * k) + b * 2 ^ (8 * k) < 2 ^ 64)
-replaced x k b hx hk hb =
+-- The quotient q by 2 ^ (8 k) is 256 h + the old byte: the mask leaves h and the places below, and the byte goes between.
+pub put_word : (x k b : ℕ) → x < 2 ^ 64 → k < 8 → b < 2 ^ 8
+    → bit_or (bit_and x (18446744073709551615 - (255 * 2 ^ (8 * k)) % 2 ^ 64)) ((b * 2 ^ (8 * k)) % 2 ^ 64) + group x k * 2 ^ (8 * k) ≡ x + b * 2 ^ (8 * k)
+put_word x k b hx hk hb =
     let Q : ℕ = 2 ^ (8 * k) in
+    let a : ℕ = 56 - 8 * k in
     let q : ℕ = x / Q in
     let h : ℕ = q / 256 in
-    let m : ℕ = 2 ^ (56 - 8 * k) in
-    let whole : q * Q + x % Q ≡ x = split x (8 * k) in
-    let a : ℕ = 56 - 8 * k in
+    let low : ℕ = x % Q in
+    let pos : 0 < Q = pow_pos (8 * k) in
+    let small : low < Q = mod-lt x pos in
     let parts : 64 ≡ (a + 8) + 8 * k = omega arith in
+    let whole : q * Q + low ≡ x = split x (8 * k) in
     let cut : q * Q ≡ h * 256 * Q + group x k * Q = ap (λ n. n * Q) (sym (div-add-mod' q 256)) ∙ add-mul (h * 256) (group x k) Q in
-    let top : 2 ^ 64 ≡ m * 256 * Q = ap (λ n. 2 ^ n) parts ∙ pow-add 2 (a + 8) (8 * k) ∙ ap (λ n. n * Q) (pow-add 2 a 8) in
-    let below : h < m = shr_lt a 8 (shr_lt (a + 8) (8 * k) (subst (λ n. x < 2 ^ n) parts hx)) in
-    let new : (h * 256 + b) * Q + x % Q < m * 256 * Q = digits_lt (omega arith) (mod-lt x (pow_pos (8 * k))) in
-    let spread : (h * 256 + b) * Q ≡ h * 256 * Q + b * Q = add-mul (h * 256) b Q in
-    (omega arith, omega arith)
-
--- what the code of `put` computes
-pub record Put (x k b : ℕ) : Type 0 where
-  pub under : (bit_and (x / 2 ^ (8 * k)) 255 * 2 ^ (8 * k)) % 2 ^ 64 ≤ x
-  pub fits : x - (bit_and (x / 2 ^ (8 * k)) 255 * 2 ^ (8 * k)) % 2 ^ 64 + (b * 2 ^ (8 * k)) % 2 ^ 64 < 2 ^ 64
-  pub is : x - (bit_and (x / 2 ^ (8 * k)) 255 * 2 ^ (8 * k)) % 2 ^ 64 + (b * 2 ^ (8 * k)) % 2 ^ 64 + group x k * 2 ^ (8 * k) ≡ x + b * 2 ^ (8 * k)
-
-pub put_word : (x k b : ℕ) → x < 2 ^ 64 → k < 8 → b < 2 ^ 8 → Put x k b
-put_word x k b hx hk hb =
-    let old : (bit_and (x / 2 ^ (8 * k)) 255 * 2 ^ (8 * k)) % 2 ^ 64 ≡ group x k * 2 ^ (8 * k) =
-    ap (λ n. (n * 2 ^ (8 * k)) % 2 ^ 64) (group_is x k) ∙ shifted (group x k) k (group_lt x k) hk in
-    let new = shifted b k hb hk in
-    let r = replaced x k b hx hk hb in
-    record { under = rw old r.0; fits = rw (old, new) r.1; is = rw (old, new) (omega arith) }
+    let top : 2 ^ 64 ≡ 2 ^ (a + 8) * Q = ap (λ n. 2 ^ n) parts ∙ pow-add 2 (a + 8) (8 * k) in
+    let ones : 256 ≤ 2 ^ (a + 8) = pow_mono {i = 8} {j = a + 8} (omega arith) in
+    let old : (255 * Q) % 2 ^ 64 ≡ 255 * Q = shl_exact 8 (8 * k) 64 (omega arith) (omega arith) in
+    let new : (b * Q) % 2 ^ 64 ≡ b * Q + 0 = shl_exact 8 (8 * k) 64 hb (omega arith) ∙ omega arith in
+    let less : (2 ^ (a + 8) - 2 ^ 8 + 256) * Q ≡ (2 ^ (a + 8) - 2 ^ 8) * Q + 256 * Q = add-mul (2 ^ (a + 8) - 2 ^ 8) 256 Q in
+    let back : 2 ^ (a + 8) - 2 ^ 8 + 256 ≡ 2 ^ (a + 8) = omega arith in
+    let mask : 18446744073709551615 - (255 * Q) % 2 ^ 64 ≡ (2 ^ (a + 8) - 2 ^ 8) * Q + (Q - 1) = omega (arith, old, top, ap (λ n. n * Q) (sym back) ∙ less) in
+    let masked : bit_and x (18446744073709551615 - (255 * Q) % 2 ^ 64) ≡ h * 256 * Q + low =
+    ap₂ bit_and (sym whole) mask ∙ and_block (8 * k) q (2 ^ (a + 8) - 2 ^ 8) low (Q - 1) small (omega arith)
+    ∙ ap₂ (λ m n. m * Q + n) (and_high q a 8 ∙ ap (λ n. n * 256) (shr_mod a 8 (shr_lt (a + 8) (8 * k) (subst (λ n. x < 2 ^ n) parts hx))))
+    (and_mask low (8 * k) ∙ mod-eq_of_lt small) in
+    let made : bit_or (bit_and x (18446744073709551615 - (255 * Q) % 2 ^ 64)) ((b * Q) % 2 ^ 64) ≡ (h * 256 + b) * Q + low =
+    ap₂ bit_or masked new ∙ or_block (8 * k) (h * 256) b low 0 small pos ∙ ap₂ (λ m n. m * Q + n) (or_shifted h 8 b hb) (or_zero_r low) in
+    omega (arith, made, whole, cut, add-mul (h * 256) b Q)
 
 pub masked : (x i : ℕ) → x < 2 ^ 64 → i < 64 → bit_and x ((18446744073709551615 * 2 ^ i) % 2 ^ 64) ≡ x / 2 ^ i * 2 ^ i
-masked x i hx hi =
-    let A : ℕ = 2 ^ i in
-    let pos : 0 < A = pow_pos i in
-    let lt : A < 2 ^ 64 = pow-lt hi in
-    let j : ℕ = 64 - i in
-    let parts : 64 ≡ j + i = omega arith in
-    let e : 18446744073709551615 * A ≡ (A - 1) * 2 ^ 64 + (2 ^ 64 - A) = omega arith in
-    let mask : (18446744073709551615 * A) % 2 ^ 64 ≡ 2 ^ (j + i) - A =
-    ap (λ n. n % 2 ^ 64) e ∙ digits_mod (A - 1) (omega arith) ∙ ap (λ n. 2 ^ n - A) parts in
-    ap (bit_and x) mask ∙ and_high x j i ∙ ap (λ n. n * 2 ^ i) (shr_mod j i (subst (λ n. x < 2 ^ n) parts hx))
+masked x i hx hi = ap (bit_and x) (ones_shl 64 i (omega arith)) ∙ and_high_mask 64 i (omega arith) x hx
 
 module _ (x i : ℕ) where
   zero_at : (p : ℕ) → p < 64 → place x p ≡ 0 → bit (row_of 64 x) p ≡ false
@@ -78,3 +62,6 @@ module _ (x i : ℕ) where
         bit_row 64 x t (omega arith) ∙ ap is_one (sym (place_kept x i t from) ∙ one),
         λ p h l. zero_at p (omega arith) (sym (place_kept x i p h) ∙ trailing_below 64 y p (omega arith)),
       )
+
+-- what the logic of numbers is to their rows
+pub ruleset row_laws = (row_none, row_all, row_and, row_or, row_xor, row_not)

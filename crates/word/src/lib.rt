@@ -11,7 +11,7 @@ use block::Block;
 
 const PLACES: usize = 64;
 
-const GROUPS: usize = 8;
+const GROUPS: usize = PLACES / 8;
 
 #[derive(Clone, Copy, PartialEq, Eq, Debug)]
 pub struct Word {
@@ -19,6 +19,7 @@ pub struct Word {
     ghost fits: { bits < 2 ^ 64 },
 }
 
+#[tactic(auto, using(crate::proofs::Words::row_laws))]
 impl Block for Word {
     ghost places = { 64 };
 
@@ -61,25 +62,22 @@ impl Block for Word {
     }
 
     fn not(self) -> Word {
-        Word {
-            bits: u64::MAX - self.bits,
-        }
+        Word { bits: !self.bits }
     }
 
     fn advance(self, enter: bool) -> (Word, bool) {
         let out = self.bits >> 63 == 1;
         (
             Word {
-                bits: (self.bits << 1) + u64::from(enter),
+                bits: (self.bits << 1) | u64::from(enter),
             },
             out,
         )
     }
 
     fn add(self, other: Word, enter: bool) -> (Word, bool) {
-        let (total, over) = self.bits.overflowing_add(other.bits);
-        let (total, again) = total.overflowing_add(u64::from(enter));
-        (Word { bits: total }, over | again)
+        let (bits, out) = self.bits.carrying_add(other.bits, enter);
+        (Word { bits }, out)
     }
 
     fn put(self, k: usize, byte: u8) -> Word {
@@ -87,9 +85,8 @@ impl Block for Word {
             return self;
         }
         let s = 8 * k;
-        let old = (self.bits >> s) & 0xff;
         Word {
-            bits: self.bits - (old << s) + ((byte as u64) << s),
+            bits: (self.bits & !(0xff << s)) | (u64::from(byte) << s),
         }
     }
 

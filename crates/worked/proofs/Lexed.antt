@@ -1,11 +1,13 @@
 -- The tokens of a text, told by a test. Assumes nothing.
-use Rattle.std.proofs.Common.{◌≡◌, ℕ, zero, suc, ◌+◌, ◌<◌, ◌≤◌, Bool, true, false, cond, ◌&&◌, eqb, ltb, leb, List, [], ◌∷◌, length, get_or, refl, inl, arith}
+use Rattle.std.proofs.Common.{◌≡◌, ℕ, ◌+◌, ◌≤◌, Bool, true, ◌&&◌, eqb, ltb, leb, List, [], ◌∷◌, length, get_or, drop, refl, inl, arith}
+use Rattle.std.specs.List.{prefix_len}
 use Rattle.std.specs.Str.{bytes_eq}
 use Rattle.std.proofs.lemmas.Bool.{and_parts, ltb-true, leb-true, eqb-true}
 use Rattle.std.proofs.lemmas.Slice.Eq.{bytes_eq-Decides}
 use Rattle.lexer.specs.declared.Class.{Class}
 use Rattle.lexer.specs.declared.Class.TheVariants.{Space, Letter, Quoted}
 use Rattle.lexer.specs.Tokens.{Tok, opening, closing, word, quote, in_class, part, Run, MarkAt, TokenAt, Ends, Tokens}
+use Rattle.lexer.proofs.Runs.{runs}
 use Rattle.tree.specs.Nodes.{longest}
 use Rattle.form.specs.Form.{Form}
 use Rattle.grammar.specs.Grammar.{Text}
@@ -13,31 +15,10 @@ use Rattle.grammar.specs.Verdicts.{Settles, accepted}
 
 -- where the run of the class c from a on ends
 abbrev until : Class → List ℕ → ℕ → ℕ
-until c [] a = a
-until c (b ∷ x) zero = cond (in_class c b) (suc (until c x zero)) zero
-until c (b ∷ x) (suc a) = suc (until c x a)
+until c x a = a + prefix_len (in_class c) (drop a x)
 
--- one byte more in front of a run, and outside it
-later : (c : Class) (b : ℕ) (x : List ℕ) (a e : ℕ) → Run c x a e → Run c (b ∷ x) (suc a) (suc e)
-later c b x a e r = record { rises = omega arith; within = omega arith; all = all; stops = λ l. r.stops (omega arith) }
-  where
-    all : (k : ℕ) → k < suc e → suc a ≤ k → in_class c (get_or (b ∷ x) k 0) ≡ true
-    all zero l m = absurd (omega arith)
-    all (suc k) l m = r.all k (omega arith) (omega arith)
-
--- one byte more in front of a run, and in it where it is of the class
-first : (c : Class) (b : ℕ) (x : List ℕ) (e : ℕ) → Run c x zero e → (t : Bool) → in_class c b ≡ t → Run c (b ∷ x) zero (cond t (suc e) zero)
-first c b x e r true i = record { rises = omega arith; within = omega arith; all = all; stops = λ l. r.stops (omega arith) }
-  where
-    all : (k : ℕ) → k < suc e → zero ≤ k → in_class c (get_or (b ∷ x) k 0) ≡ true
-    all zero l m = i
-    all (suc k) l m = r.all k (omega arith) (omega arith)
-first c b x e r false i = record { rises = omega arith; within = omega arith; all = λ k l m. absurd (omega arith); stops = λ l. i }
-
-runs : (c : Class) (x : List ℕ) (a : ℕ) → a ≤ length x → Run c x a (until c x a)
-runs c [] a h = record { rises = omega arith; within = h; all = λ k l m. absurd (omega arith); stops = λ l. absurd (omega arith) }
-runs c (b ∷ x) zero h = first c b x _ (runs c x zero (omega arith)) (in_class c b) refl
-runs c (b ∷ x) (suc a) h = later c b x a _ (runs c x a (omega arith))
+until_runs : (c : Class) (x : List ℕ) (a : ℕ) → a ≤ length x → Run c x a (until c x a)
+until_runs c x a h = runs c x a _ h refl
 
 -- at s stands the byte b
 abbrev marked : List ℕ → ℕ → ℕ → Bool
@@ -68,7 +49,7 @@ token opening x s l h = marks x 40 s h
 token closing x s l h = marks x 41 s h
 token (word w) x s l h =
     let p = and_parts (ltb s (until Letter x s)) _ h in
-    record { some = ltb-true s (until Letter x s) p.0; run = runs Letter x s l; text = (bytes_eq-Decides w _).0 p.1 }
+    record { some = ltb-true s (until Letter x s) p.0; run = until_runs Letter x s l; text = (bytes_eq-Decides w _).0 p.1 }
 token (quote q) x s l h =
     let p = and_parts (marked x 34 s) _ h in
     let r = and_parts (marked x 34 (until Quoted x (s + 1))) _ p.1 in
@@ -78,7 +59,7 @@ token (quote q) x s l h =
       inside = m.inside;
       byte = m.byte;
       shut = until Quoted x (s + 1);
-      run = runs Quoted x (s + 1) (omega arith);
+      run = until_runs Quoted x (s + 1) (omega arith);
       shut_inside = n.inside;
       shut_byte = n.byte;
       to = refl;
@@ -93,11 +74,11 @@ lexed x (t ∷ ts) p = leb p (length x) && (stands t x (until Space x p) && lexe
 tokens : (x : List ℕ) (ts : List Tok) (p : ℕ) → lexed x ts p ≡ true → (to : ℕ) × Tokens x ts p to × Ends x to
 tokens x [] p h =
     let a = and_parts (leb p (length x)) _ h in
-    (p, refl, record { from = until Space x p; skips = runs Space x p (leb-true p (length x) a.0); last = inl (eqb-true _ _ a.1) })
+    (p, refl, record { from = until Space x p; skips = until_runs Space x p (leb-true p (length x) a.0); last = inl (eqb-true _ _ a.1) })
 tokens x (t ∷ ts) p h =
     let a = and_parts (leb p (length x)) _ h in
     let b = and_parts (stands t x (until Space x p)) _ a.1 in
-    let r = runs Space x p (leb-true p (length x) a.0) in
+    let r = until_runs Space x p (leb-true p (length x) a.0) in
     let l = token t x (until Space x p) r.within b.0 in
     let m = tokens x ts (past t x (until Space x p)) b.1 in
     (m.0, (until Space x p, past t x (until Space x p), record { skips = r; token = l }, m.1), m.2)

@@ -1,21 +1,24 @@
 // How a table is filled from a tree.
+// A node is first found and then matched: where one pattern does both, as `Some(Node::Cons { .. })`, the proof of the other arms
+// doesn't know that it failed.
 ghost use Rattle.std.specs.Prelude.{◌≡◌, ◌+◌, ◌≤◌, [], ◌∷◌, ◌++◌, map, length, IfOk};
-ghost use Rattle.classes.specs.Limit.{heaviest};
 ghost use Rattle.classes.specs.Numbered.{Adds, Filled, sets_of};
 ghost use Rattle.form.specs.Form.{Form, Forms, rep, weight};
 ghost use Rattle.form.specs.Positions.{only};
+ghost use Rattle.limits.specs.Limits.{heaviest};
 ghost use Rattle.theory.specs.Written.{all_classes, classes, or_nothing};
 ghost use Rattle.tree.specs.Stands.{StandAll, Stands};
 
 use crate::listed::{inside, outside, quoted};
 use crate::table::ClassTable;
+use limits::HEAVIEST;
 use std::alloc::{AllocError, Global};
 use stream::ByteSet;
 use tree::node::Node;
 use tree::store::Tree;
 
 // The most classes that a form can ask for, which is what the heaviest one weighs.
-const MOST: usize = 1000;
+const MOST: usize = HEAVIEST as usize;
 
 impl ClassTable {
     // An empty table; only this can want memory.
@@ -54,8 +57,8 @@ impl ClassTable {
     fn quote(&mut self, bytes: &[u8])
         ensures { Adds self.old self.new (map only bytes.now) }
     {
-        for b in bytes {
-            self.put(quoted(*b));
+        for &byte in bytes {
+            self.put(quoted(byte));
         }
     }
 
@@ -77,7 +80,7 @@ impl ClassTable {
             Node::Rep { least, most, part } => self.repeat(tree, least, most, part),
             Node::Start | Node::End => {}
             // a list is no form
-            Node::Nil | Node::Cons { head: _, tail: _ } => {}
+            Node::Nil | Node::Cons { .. } => {}
         }
     }
 

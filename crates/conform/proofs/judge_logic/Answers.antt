@@ -1,34 +1,17 @@
-use Rattle.std.proofs.Common.{ℕ, ◌∙◌, ap₂, arith}
-use Rattle.block.specs.Rows.{bit}
-use Rattle.block.specs.Calls.{Served}
+use Rattle.std.proofs.Common.{◌≡◌, ℕ, ◌<◌, rules, sym, ap₂, ◌∙◌}
+use Rattle.block.specs.Calls.{Read}
+use Rattle.block.specs.Rows.{bit, bit_of}
 use Rattle.conform.specs.Judged.{made}
-use Rattle.conform.proofs.Bytes.{agree_more, group_same, group_found}
 use Rattle.conform.proofs.judge_logic.Goals as goal
 
-pub loop-k-preserved : goal.loop-k-preserved
-loop-k-preserved g c =
+pub returns : goal.returns
+returns g c =
     let v = g.B.Block.places in
     let r = g.B.Block.row in
-    let k = c.loop-k.k in
-    let served : Served v k = omega arith in
-    let want : ℕ → _ = λ i. made c.args.op (bit (r c.args.a) i) (bit (r c.args.b) i) in
-    agree_more k _ want c.loop-k.invariant
-    (group_same v (r c.args.answer) k c.byte_of-want.result _ want served c.read-in-loop-k-2.ensures
-    (λ j h. c.byte_of-want.ensures j h ∙ ap₂ (made c.args.op) (c.read.ensures.inside served j h) (c.read-in-loop-k.ensures.inside served j h)) c.if-read-want.false)
-
-pub returns-then-read-want : goal.returns-then-read-want
-returns-then-read-want g c =
-    let v = g.B.Block.places in
-    let r = g.B.Block.row in
-    let k = c.loop-k.k in
-    let served : Served v k = omega arith in
-    let want : ℕ → _ = λ i. made c.args.op (bit (r c.args.a) i) (bit (r c.args.b) i) in (
-      c.call_of.ensures,
-      (
-        omega arith,
-        c.loop-k.invariant,
-        λ agree. c.if-read-want.true
-            (group_found v (r c.args.answer) k c.byte_of-want.result _ want served c.read-in-loop-k-2.ensures
-            (λ j h. c.byte_of-want.ensures j h ∙ ap₂ (made c.args.op) (c.read.ensures.inside served j h) (c.read-in-loop-k.ensures.inside served j h)) (omega arith) (omega arith) agree),
-      ),
-    )
+    let op = c.args.op in
+    let a = r c.args.a in
+    let b = r c.args.b in
+    rw (sym c.from.ensures) (c.judge.ensures (λ i. made op (bit a i) (bit b i))
+    (λ k byte served post j h.
+    let e : (x : ℕ) × (y : ℕ) × Read v a k x × Read v b k y × ((i : ℕ) → i < 8 → bit_of byte i ≡ made op (bit_of x i) (bit_of y i)) = search rules in
+    e.4 j h ∙ ap₂ (made op) (e.2.inside served j h) (e.3.inside served j h)))

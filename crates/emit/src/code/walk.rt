@@ -1,5 +1,8 @@
 // The walk over a tree, which writes the steps of a form.
-ghost use Rattle.std.specs.Prelude.{◌≡◌, ℕ, ◌+◌, ◌-◌, ◌≤◌, Bool, ◌&&◌, ◌||◌, List, length, if◌then◌else◌, None, ◌==◌, nat_eq};
+// The tree and a node's index are two parameters, and so are the next class and the place: the tree stays while the index changes at each
+// call, and the class goes on where the place is made anew, so a struct of them would be taken apart at once. A node is first found and
+// then matched: where one pattern does both, as `Some(Node::Cons { .. })`, the proof of the other arms doesn't know that it failed.
+ghost use Rattle.std.specs.Prelude.{◌≡◌, ℕ, ◌+◌, ◌≤◌, Bool, ◌&&◌, ◌||◌, List, length, if◌then◌else◌, None, ◌==◌, nat_eq};
 ghost use Rattle.emit.specs.Coding.{Writes, top};
 ghost use Rattle.emit.specs.Walking.{Walks};
 ghost use Rattle.form.specs.Form.{Form, Forms, rep, star as star_of};
@@ -8,46 +11,28 @@ ghost use Rattle.theory.specs.Written.{all_classes, classes, copies as copies_of
 ghost use Rattle.tree.specs.Stands.{StandAll, Stands};
 
 use crate::code::Code;
+use crate::code::write::fresh;
 use crate::place::Place;
-use crate::rows::{FEEDS, STARTS};
 use crate::shape::{all_empty, empty, no_form, single};
-use program::Step;
+use program::{FEEDS, STARTS, Step};
 use tree::node::Node;
 use tree::store::Tree;
 
-// Whether so many copies of a part surely match the empty part, where the part itself does or does not.
-fn skips(copies: u8, empty: bool) -> bool
-    ensures { result ≡ (copies == 0 || empty) }
-{
-    copies == 0 || empty
+// What is repeated: its node, the first of its classes, and whether it surely matches the empty part.
+#[derive(Clone, Copy)]
+struct Part {
+    node: usize,
+    class: usize,
+    empty: bool,
 }
 
-// How many of the copies of a repeat may be left out.
-fn optional(least: u8, most: u8) -> u8
-    ensures { result ≡ most - least }
-{
-    most.saturating_sub(least)
-}
-
-// Both of two tests.
-fn both(a: bool, b: bool) -> bool
-    ensures { result ≡ (a && b) }
-{
-    a && b
-}
-
-// Whether what stands behind a form may be empty, where it is followed by the forms of a list.
-fn last_before(last: bool, tree: &Tree, i: usize) -> bool
-    ensures { (fs : Forms) (c : ℕ) → StandAll tree.now fs i → result ≡ (last && empty_of (in_order_of fs c)) }
-{
-    last && all_empty(tree, i)
-}
-
-// Whether what stands before some forms may be empty, where they follow another form.
-fn first_behind(first: bool, tree: &Tree, i: usize) -> bool
-    ensures { (f : Form) (c : ℕ) → Stands tree.now f i → result ≡ (first && empty_of (pattern f c)) }
-{
-    first && empty(tree, i)
+impl Part {
+    // Whether so many copies surely match the empty part.
+    fn skips(self, copies: u8) -> bool
+        ensures { result ≡ (copies == 0 || self.empty) }
+    {
+        copies == 0 || self.empty
+    }
 }
 
 impl Code {
@@ -55,16 +40,16 @@ impl Code {
     fn quote(&mut self, bytes: usize, class: usize, stretched: bool, into: Option<usize>) -> usize
         ensures { (bs : List ℕ) (f l : Bool) (d : ℕ) → length bs ≡ bytes → stretched ≡ (f && l) → class + bytes ≤ top → (result ≡ class + bytes) × Writes into d (stretch f l (spelt bs class)) self.old self.new }
     {
-        if bytes == 0 {
+        let Some(more) = bytes.checked_sub(1) else {
             self.stay(into);
             return class;
+        };
+        let last = class.saturating_add(more);
+        for before in class..last {
+            self.take(before, false, None);
         }
-        if bytes == 1 {
-            self.take(class, stretched, into);
-            return class.saturating_add(1);
-        }
-        self.take(class, false, None);
-        self.quote(bytes - 1, class.saturating_add(1), false, into)
+        self.take(last, stretched && more == 0, into);
+        last.saturating_add(1)
     }
 
     // The form that the node stands for.
@@ -79,10 +64,10 @@ impl Code {
             Node::Quote { from, to } => self.quote(
                 to.saturating_sub(from),
                 class,
-                both(place.first, place.last),
+                place.stretched(),
                 place.into,
             ),
-            Node::Set { from: _, to: _ } | Node::Out { from: _, to: _ } => self.leaf(class, place),
+            Node::Set { .. } | Node::Out { .. } => self.leaf(class, place),
             Node::Seq { parts } => self.in_order(tree, parts, class, place),
             Node::Or { parts } => self.one_of(tree, parts, class, place),
             Node::Star { part } => self.star(tree, part, class, place),
@@ -98,7 +83,7 @@ impl Code {
                 class
             }
             // a list is no form
-            Node::Nil | Node::Cons { head: _, tail: _ } => class,
+            Node::Nil | Node::Cons { .. } => class,
         }
     }
 
@@ -106,7 +91,7 @@ impl Code {
     fn leaf(&mut self, class: usize, place: Place) -> usize
         ensures { Walks class 1 result place (Pattern.leaf class) self.old self.new }
     {
-        self.take(class, both(place.first, place.last), place.into);
+        self.take(class, place.stretched(), place.into);
         class.saturating_add(1)
     }
 
@@ -123,10 +108,10 @@ impl Code {
                 if no_form(tree, tail) {
                     return self.form(tree, head, class, place);
                 }
-                let last = last_before(place.last, tree, tail);
-                let next = self.form(tree, head, class, place.ahead(last));
-                let first = first_behind(place.first, tree, head);
-                self.in_order(tree, tail, next, place.behind(first))
+                let ahead = place.ahead(all_empty(tree, tail));
+                let next = self.form(tree, head, class, ahead);
+                let behind = place.behind(empty(tree, head));
+                self.in_order(tree, tail, next, behind)
             }
             _ => {
                 self.stay(place.into);
@@ -167,7 +152,7 @@ impl Code {
                 self.one_of(tree, tail, next, place)
             }
             None => {
-                let row = self.next_gather();
+                let row = fresh(&mut self.gather);
                 self.put(Step::Save(place.depth));
                 let next = self.form(tree, head, class, place.deeper(None));
                 self.put(Step::Save(row));
@@ -188,7 +173,7 @@ impl Code {
             self.run(class, place.into);
             return class.saturating_add(1);
         }
-        let row = self.next_star();
+        let row = fresh(&mut self.star);
         self.put(Step::Or(row));
         self.put(Step::Load(row));
         let next = self.form(tree, part, class, place.round());
@@ -218,98 +203,55 @@ impl Code {
             self.stay(place.into);
             return class;
         }
-        let skipped = empty(tree, part);
-        let first = both(place.first, skips(least, skipped));
-        let next = self.copies(
-            tree,
-            part,
+        let part = Part {
+            node: part,
             class,
-            least,
-            skipped,
-            place.ahead(place.last),
-            class,
-        );
-        self.up_to(
-            tree,
-            part,
-            class,
-            optional(least, most),
-            skipped,
-            place.behind(first),
-            next,
-        )
+            empty: empty(tree, part),
+        };
+        // what stands behind the copies may be left out
+        let next = self.copies(tree, part, least, place.ahead(true));
+        let behind = place.behind(part.skips(least));
+        self.up_to(tree, part, most - least, behind, next)
     }
 
     // So many copies, one behind the other.
     #[cycle(copies_either_form_in_order_one_of_repeat_star_up_to)]
-    fn copies(
-        &mut self,
-        tree: &Tree,
-        part: usize,
-        class: usize,
-        left: u8,
-        skipped: bool,
-        place: Place,
-        next: usize,
-    ) -> usize
-        ensures { (f : Form) → Stands tree.now f part → skipped ≡ empty_of (pattern f class) → place.into ≡ None → class + length (classes f) ≤ top → (result ≡ (if nat_eq left 0 then next else class + length (classes f))) × Writes place.into place.depth (stretch place.first place.last (copies_of left (pattern f class))) self.old self.new }
+    fn copies(&mut self, tree: &Tree, part: Part, count: u8, place: Place) -> usize
+        ensures { (f : Form) → Stands tree.now f part.node → part.empty ≡ empty_of (pattern f part.class) → place.into ≡ None → part.class + length (classes f) ≤ top → (result ≡ (if nat_eq count 0 then part.class else part.class + length (classes f))) × Writes place.into place.depth (stretch place.first place.last (copies_of count (pattern f part.class))) self.old self.new }
     {
-        if left == 0 {
-            return next;
+        let mut next = part.class;
+        let mut place = place;
+        for left in (0..count).rev() {
+            let ahead = place.ahead(part.skips(left));
+            next = self.form(tree, part.node, part.class, ahead);
+            place = place.behind(part.empty);
         }
-        let last = both(place.last, skips(left - 1, skipped));
-        let next = self.form(tree, part, class, place.ahead(last));
-        let first = both(place.first, skipped);
-        self.copies(
-            tree,
-            part,
-            class,
-            left - 1,
-            skipped,
-            place.behind(first),
-            next,
-        )
+        next
     }
 
-    // At most so many copies.
+    // At most so many copies. It calls itself for what is left, where `copies` is a loop, as the pattern does: each option holds those
+    // behind it, and the row that the outermost makes is loaded when all of them are written.
     #[cycle(copies_either_form_in_order_one_of_repeat_star_up_to)]
-    fn up_to(
-        &mut self,
-        tree: &Tree,
-        part: usize,
-        class: usize,
-        left: u8,
-        skipped: bool,
-        place: Place,
-        next: usize,
-    ) -> usize
-        ensures { (f : Form) → Stands tree.now f part → skipped ≡ empty_of (pattern f class) → class + length (classes f) ≤ top → (result ≡ (if nat_eq left 0 then next else class + length (classes f))) × Writes place.into place.depth (stretch place.first place.last (up_to left (pattern f class))) self.old self.new }
+    fn up_to(&mut self, tree: &Tree, part: Part, left: u8, place: Place, next: usize) -> usize
+        ensures { (f : Form) → Stands tree.now f part.node → part.empty ≡ empty_of (pattern f part.class) → part.class + length (classes f) ≤ top → (result ≡ (if nat_eq left 0 then next else part.class + length (classes f))) × Writes place.into place.depth (stretch place.first place.last (up_to left (pattern f part.class))) self.old self.new }
     {
         if left == 0 {
             self.stay(place.into);
             return next;
         }
-        let first = both(place.first, skipped);
+        let ahead = place.ahead(true);
+        let behind = place.behind(part.empty);
         match place.into {
             Some(row) => {
                 self.put(Step::Or(row));
-                let next = self.form(tree, part, class, place.ahead(place.last));
-                self.up_to(
-                    tree,
-                    part,
-                    class,
-                    left - 1,
-                    skipped,
-                    place.behind(first),
-                    next,
-                )
+                let next = self.form(tree, part.node, part.class, ahead);
+                self.up_to(tree, part, left - 1, behind, next)
             }
             None => {
-                let row = self.next_gather();
+                let row = fresh(&mut self.gather);
                 self.put(Step::Save(row));
-                let next = self.form(tree, part, class, place.ahead(place.last));
-                let place = place.behind(first).gathered(row);
-                let next = self.up_to(tree, part, class, left - 1, skipped, place, next);
+                let next = self.form(tree, part.node, part.class, ahead);
+                let next = self.up_to(tree, part, left - 1, behind.gathered(row), next);
                 self.put(Step::Load(row));
                 next
             }

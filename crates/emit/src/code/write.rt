@@ -1,17 +1,17 @@
 // The steps of a program, one after the other. What does not fit is not written: the contracts say what is where it does.
-ghost use Rattle.std.specs.Prelude.{◌≡◌, ℕ, ◌≤◌, [], ◌∷◌, IfOk, if◌then◌else◌};
+ghost use Rattle.std.specs.Prelude.{◌≡◌, ℕ, ◌+◌, ◌≤◌, [], ◌∷◌, IfOk, if◌then◌else◌};
 ghost use Rattle.emit.specs.Coding.{Does, Writes, steps_of, top};
 ghost use Rattle.program.specs.Compile.{feeds_at, starts_at};
 ghost use Rattle.program.specs.declared.Step.TheVariants.{More as MoreOf, Take as TakeOf};
 ghost use Rattle.theory.specs.Pattern.{eps, head, leaf, many, plus, tail};
 
 use crate::code::Code;
-use crate::rows::CLASSES;
-use program::Step;
+use limits::HEAVIEST;
+use program::{CLASSES, Step};
 use std::alloc::{AllocError, Global};
 
 // How many steps the program of the heaviest form has, at most.
-const LONGEST: usize = 4000;
+const LONGEST: usize = 4 * HEAVIEST as usize;
 
 // The step that takes one byte of the class, or one and more.
 fn taking(class: usize, carry: usize, stretched: bool) -> Step
@@ -22,6 +22,16 @@ fn taking(class: usize, carry: usize, stretched: bool) -> Step
     } else {
         Step::Take { class, carry }
     }
+}
+
+// The number that comes next, of a carry or of a row, which is then taken.
+pub(super) fn fresh(number: &mut usize) -> usize
+    ensures here { result ≡ number.old }
+    ensures counted { number.old + 1 ≤ top → number.new ≡ number.old + 1 }
+{
+    let here = *number;
+    *number = here.saturating_add(1);
+    here
 }
 
 impl Code {
@@ -58,27 +68,6 @@ impl Code {
         self.steps.as_slice()
     }
 
-    // How many carries have a number.
-    pub(crate) fn carries(&self) -> usize
-        ensures { result ≡ self.now.carry }
-    {
-        self.carry
-    }
-
-    // The next star's row.
-    pub(crate) fn stars(&self) -> usize
-        ensures { result ≡ self.now.star }
-    {
-        self.star
-    }
-
-    // The next gathering row.
-    pub(crate) fn gathers(&self) -> usize
-        ensures { result ≡ self.now.gather }
-    {
-        self.gather
-    }
-
     // One step more.
     pub(super) fn put(&mut self, step: Step)
         ensures { Does self.old self.new (step ∷ []) 0 0 0 }
@@ -86,36 +75,6 @@ impl Code {
         if self.steps.len() < LONGEST {
             self.steps.push_reserved(step);
         }
-    }
-
-    // The number of the next carry, which then has it.
-    fn next_carry(&mut self) -> usize
-        ensures number { result ≡ self.old.carry }
-        ensures counted { Does self.old self.new [] 1 0 0 }
-    {
-        let carry = self.carry;
-        self.carry = carry.saturating_add(1);
-        carry
-    }
-
-    // The next star's row.
-    pub(super) fn next_star(&mut self) -> usize
-        ensures number { result ≡ self.old.star }
-        ensures counted { Does self.old self.new [] 0 1 0 }
-    {
-        let star = self.star;
-        self.star = star.saturating_add(1);
-        star
-    }
-
-    // The next gathering row.
-    pub(super) fn next_gather(&mut self) -> usize
-        ensures number { result ≡ self.old.gather }
-        ensures counted { Does self.old self.new [] 0 0 1 }
-    {
-        let gather = self.gather;
-        self.gather = gather.saturating_add(1);
-        gather
     }
 
     // What matches nothing but the empty part: the marks stay, or go into the row that gathers.
@@ -127,11 +86,11 @@ impl Code {
         }
     }
 
-    // One byte of the class, or one and more.
+    // One byte of the class, or one and more. `run` is not this with another step: what each writes is a pattern of its own.
     pub(super) fn take(&mut self, class: usize, stretched: bool, into: Option<usize>)
         ensures { class ≤ top → (d : ℕ) → Writes into d (if stretched then plus class else leaf class) self.old self.new }
     {
-        let carry = self.next_carry();
+        let carry = fresh(&mut self.carry);
         let class = CLASSES.saturating_add(class);
         self.put(taking(class, carry, stretched));
         self.stay(into);
@@ -141,7 +100,7 @@ impl Code {
     pub(super) fn run(&mut self, class: usize, into: Option<usize>)
         ensures { class ≤ top → (d : ℕ) → Writes into d (many class) self.old self.new }
     {
-        let carry = self.next_carry();
+        let carry = fresh(&mut self.carry);
         let class = CLASSES.saturating_add(class);
         self.put(Step::Run { class, carry });
         self.stay(into);

@@ -1,16 +1,15 @@
 // How a form is compiled.
 ghost use Rattle.std.specs.Prelude.{◌≡◌, ◌≤◌, [], IfOk};
-ghost use Rattle.classes.specs.Limit.{heaviest};
 ghost use Rattle.emit.specs.Whole.{CompiledFrom, program_of, table_of};
 ghost use Rattle.form.specs.Form.{Form, weight};
+ghost use Rattle.limits.specs.Limits.{heaviest};
 ghost use Rattle.tree.specs.Stands.{Stands};
 
 use crate::code::Code;
 use crate::compiled::{Compiled, Sizes};
 use crate::place::Place;
-use crate::rows::CLASSES;
 use classes::ClassTable;
-use program::Step;
+use program::{CLASSES, Step};
 use std::alloc::{AllocError, Global};
 use stream::ByteSet;
 use tree::store::Tree;
@@ -49,14 +48,14 @@ impl Compiled {
         let first = CLASSES.saturating_add(classes);
         self.code.begin(first, 0);
         self.code.form(tree, root, 0, Place::outermost());
-        let behind = self.code.stars();
+        let behind = self.code.star;
         self.code.begin(first, behind);
         self.code.form(tree, root, 0, Place::outermost());
         Sizes {
             classes,
             stars: behind.saturating_sub(first),
-            carries: self.code.carries(),
-            rows: self.code.gathers(),
+            carries: self.code.carry,
+            rows: self.code.gather,
         }
     }
 }

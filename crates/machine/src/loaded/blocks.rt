@@ -1,25 +1,25 @@
 // How a matcher goes from block to block.
 ghost use Rattle.std.specs.Prelude.{◌≡◌, ℕ, ◌+◌, ◌≤◌, length};
-ghost use Rattle.block.specs.Rows.{bit};
 ghost use Rattle.block.specs.Calls.{answered, widest};
 ghost use Rattle.emit.specs.Whole.{program_of};
 ghost use Rattle.form.specs.Form.{Form};
 ghost use Rattle.limits.specs.Limits.{heaviest};
 ghost use Rattle.machine.specs.Blocks.{Found, Ready};
+ghost use Rattle.machine.specs.Carrying.{entering, leaving};
 ghost use Rattle.machine.specs.Matching.{Agrees, Keeps, MatchesBlock};
 ghost use Rattle.program.specs.Compile.{stars_at};
 ghost use Rattle.stream.specs.Tables.{rows};
 
 use crate::loaded::Matcher;
 use crate::registers::Registers;
-use crate::rules::{CLASSES, rule};
-use crate::runs::run_block;
+use crate::rules::rule;
+use crate::runs::Program;
 use crate::shown::Shown;
 use block::Block;
-use limits::{BLOCKS, BLOCKS_EACH, WIDEST_KIND};
+use limits::{WIDEST_KIND, blocks_needed};
 use marks::below;
+use program::CLASSES;
 use refusal::Refusal;
-use std::mem::swap;
 
 // Whether a block of so many bytes can be matched with so many working blocks.
 fn agree<B: Block>(weight: usize, blocks: usize, bytes: usize) -> Result<(), Refusal>
@@ -29,7 +29,7 @@ fn agree<B: Block>(weight: usize, blocks: usize, bytes: usize) -> Result<(), Ref
     if B::width() > WIDEST_KIND {
         return Err(Refusal::KindTooWide);
     }
-    if blocks < BLOCKS_EACH * weight + BLOCKS {
+    if blocks < blocks_needed(weight) {
         return Err(Refusal::TooFewBlocks);
     }
     if bytes > B::width() {
@@ -44,20 +44,16 @@ impl Matcher {
         requires seen { B.places ≤ widest }
         requires room { self.old.sizes.rows ≤ length blocks.old }
         ensures keeps { Keeps self.old self.new }
-        ensures ins { self.new.ins ≡ self.old.ins }
-        ensures found { (F : Form) (t : ℕ → ℕ) (b : ℕ) → Ready F t b B.places (program_of self.old.compiled) (stars_at self.old.sizes.classes) (stars_at self.old.sizes.classes + self.old.sizes.stars) (rows B.Block.row blocks.old) (bit self.old.ins.items) → Found F t b B.places (B.Block.row result) (bit self.new.outs.items) }
+        ensures found { (F : Form) (t : ℕ → ℕ) (b : ℕ) → Ready F t b B.places (program_of self.old.compiled) (stars_at self.old.sizes.classes) (stars_at self.old.sizes.classes + self.old.sizes.stars) (rows B.Block.row blocks.old) (entering self.old.carries) → Found F t b B.places (B.Block.row result) (leaving self.new.carries) }
     {
-        let from = CLASSES + self.sizes.classes;
-        let to = from + self.sizes.stars;
+        let first = CLASSES + self.sizes.classes;
+        let program = Program {
+            steps: self.compiled.program(),
+            stars: first..first + self.sizes.stars,
+            rows: self.sizes.rows,
+        };
         let mut registers = Registers::over(blocks);
-        run_block(
-            self.compiled.program(),
-            from,
-            to,
-            &mut registers,
-            self.ins.as_slice(),
-            self.outs.as_mut_slice(),
-        )
+        program.run(&mut registers, &mut self.carries)
     }
 
     // Matches the recording's next bytes: a full block, or fewer bytes, which end the recording. Refused, all left: a kind that is too
@@ -72,7 +68,7 @@ impl Matcher {
         agree::<B>(self.weight, blocks.len(), piece.len())?;
         let (feeds, behind) = rule(piece, self.starts, self.compiled.sets(), blocks)?;
         let ends = self.run(blocks);
-        swap(&mut self.ins, &mut self.outs);
+        self.carries.hand_on(self.sizes.carries);
         self.starts = behind;
         if piece.len() == B::width() {
             return Ok(Shown { ends, feeds });

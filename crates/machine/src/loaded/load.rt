@@ -2,31 +2,17 @@
 ghost use Rattle.compiler.specs.Faults.{Reads, Refused};
 ghost use Rattle.form.specs.Form.{Form, nil, seq};
 ghost use Rattle.machine.specs.Matching.{Keeps, Loaded, Matched, Runs, Same};
-ghost use Rattle.std.specs.Prelude.{◌≡◌, ℕ, false, [], IfOk, MatchResult, slice_index_or};
+ghost use Rattle.std.specs.Prelude.{◌≡◌, [], IfOk, MatchResult};
 
+use crate::carries::Carries;
 use crate::loaded::Matcher;
 use compiler::read_text;
 use emit::{Compiled, Sizes};
-use limits::HEAVIEST;
+use program::CLASSES;
 use refusal::Refusal;
 use std::alloc::{AllocError, Global};
 use std::mem::swap;
 use tree::store::Tree;
-
-// The most carries that a form can ask for, which is what the heaviest one weighs.
-const MOST: usize = HEAVIEST as usize;
-
-// The first rows of a program, which every form has: those of kept marks, of line feeds and of line starts.
-pub(crate) const RULED: usize = 18;
-
-// No carries.
-fn forget(carries: &mut [bool])
-    ensures { (k : ℕ) → slice_index_or carries.new k false ≡ false }
-{
-    for carry in carries.iter_mut() {
-        *carry = false;
-    }
-}
 
 impl Matcher {
     // A matcher without a text, which weighs nothing and ends everywhere; only this can want memory.
@@ -36,8 +22,7 @@ impl Matcher {
         let tree = Tree::new(heap)?;
         let spare = Tree::new(heap)?;
         let compiled = Compiled::new(heap)?;
-        let ins = vec![in heap; false; MOST]?;
-        let outs = vec![in heap; false; MOST]?;
+        let carries = Carries::new(heap)?;
         Ok(Matcher {
             tree,
             spare,
@@ -48,10 +33,10 @@ impl Matcher {
                 classes: 0,
                 stars: 0,
                 carries: 0,
-                rows: RULED,
+                // those before the classes, which every form has
+                rows: CLASSES,
             },
-            ins,
-            outs,
+            carries,
             starts: true,
         })
     }
@@ -77,7 +62,7 @@ impl Matcher {
         ensures keeps { Keeps self.old self.new }
         ensures matched { (F : Form) → Runs F self.old → Matched F [] self.new }
     {
-        forget(self.ins.as_mut_slice());
+        self.carries.forget();
         self.starts = true;
     }
 

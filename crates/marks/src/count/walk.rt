@@ -1,12 +1,14 @@
 // How the counting of lines goes on.
-ghost use Rattle.std.specs.Prelude.{◌≡◌, ℕ, ◌+◌, ◌-◌, ◌≤◌, max};
+ghost use Rattle.std.specs.Prelude.{◌≡◌, ℕ, ◌+◌, ◌≤◌, max, is_ok, IfErr};
 ghost use Rattle.block.specs.Calls.{answered};
-ghost use Rattle.marks.specs.Counting.{FeedsAt, Counts, AtFirst, Moves, Placed, Nexts};
+ghost use Rattle.refusal.specs.declared.Refusal.TheVariants.{RecordingTooLong};
+ghost use Rattle.marks.specs.Counting.{FeedsAt, Counts, AtFirst, Begins, Moves, Placed, Nexts};
 
 use crate::count::{FARTHEST, Lines};
-use crate::line::{Line, pass};
+use crate::line::{Line, Spot};
+use crate::ones::ones_between;
 use block::Block;
-use refusal::End;
+use refusal::{End, Refusal};
 
 impl<B: Block> Lines<B> {
     // At the first place of a recording's first block, which has these line feeds.
@@ -18,53 +20,53 @@ impl<B: Block> Lines<B> {
             feeds,
             base: 0,
             at: 0,
-            number: 1,
-            start: 0,
+            line: Line::FIRST,
         }
     }
 
-    // Moves on to place `to`.
-    pub(crate) fn reach(&mut self, to: usize)
-        requires order { self.old.at ≤ to }
-        requires seen { to ≤ answered B.places }
-        ensures { Moves B.Block.row (answered B.places) self.old self.new to }
+    // At the first place of a block that begins here, with these line feeds. Refused where that is behind `FARTHEST`.
+    pub fn at(feeds: B, here: Spot) -> Result<Lines<B>, Refusal>
+        ensures { Begins B.Block.row feeds here result }
     {
-        let line = Line {
-            number: self.number,
-            start: self.start,
-        };
-        let line = pass(line, self.feeds, self.base, self.at, to);
-        *self = Lines {
-            feeds: self.feeds,
-            base: self.base,
-            at: to,
-            number: line.number,
-            start: line.start,
-        };
-    }
-
-    // Moves on behind the block's last place.
-    pub(crate) fn finish(&mut self)
-        ensures { Moves B.Block.row (answered B.places) self.old self.new (max self.old.at (answered B.places)) }
-    {
-        let width = B::width();
-        if self.at < width {
-            self.reach(width);
+        if here.position > FARTHEST {
+            return Err(Refusal::RecordingTooLong);
         }
+        Ok(Lines {
+            feeds,
+            base: here.position,
+            at: 0,
+            line: here.line,
+        })
     }
 
-    // The end at the place up to which lines are counted.
-    pub(crate) fn end(&self) -> End
-        ensures line { result.line ≡ self.now.number }
-        ensures column { result.column ≡ self.now.base + self.now.at - self.now.start }
+    // Where the lines stand.
+    pub fn here(&self) -> Spot
         ensures position { result.position ≡ self.now.base + self.now.at }
+        ensures line { result.line ≡ self.now.line }
     {
-        let position = self.base + self.at;
-        End {
-            line: self.number,
-            column: position - self.start,
-            position,
+        Spot {
+            position: self.base + self.at,
+            line: self.line,
         }
+    }
+
+    // Moves on to place `to`, where the lines do not stand behind it: one line more for each line feed between.
+    pub(crate) fn reach(&mut self, to: usize)
+        requires seen { to ≤ answered B.places }
+        ensures { (w : ℕ) → to ≤ w → Moves B.Block.row w self.old self.new (max self.old.at to) }
+    {
+        if to <= self.at {
+            return;
+        }
+        let mut line = self.line;
+        for p in ones_between(self.feeds, self.at, to) {
+            line = Line {
+                number: line.number + 1,
+                start: self.base + p + 1,
+            };
+        }
+        self.at = to;
+        self.line = line;
     }
 
     // Moves on to place `p`, and answers the end there. A place that is passed, or none of the block's, is answered by None, and
@@ -76,26 +78,23 @@ impl<B: Block> Lines<B> {
             return None;
         }
         self.reach(p);
-        Some(self.end())
+        Some(self.here().end())
     }
 
     // Moves on to the next block, which has these line feeds. Where that would begin behind `FARTHEST`, or the lines stand behind
-    // the places of this kind, nothing moves, and the answer is false.
-    pub fn next(&mut self, feeds: B) -> bool
-        ensures { Nexts B.Block.row (answered B.places) feeds self.old self.new result }
+    // the places of this kind, that is refused, and nothing moves.
+    pub fn next(&mut self, feeds: B) -> Result<(), Refusal>
+        ensures next { Nexts B.Block.row (answered B.places) feeds self.old self.new (is_ok result) }
+        ensures why { IfErr result (λ e. e ≡ RecordingTooLong) }
     {
         let width = B::width();
         if self.at > width || self.base + width > FARTHEST {
-            return false;
+            return Err(Refusal::RecordingTooLong);
         }
         self.reach(width);
-        *self = Lines {
-            feeds,
-            base: self.base + width,
-            at: 0,
-            number: self.number,
-            start: self.start,
-        };
-        true
+        self.feeds = feeds;
+        self.base += width;
+        self.at = 0;
+        Ok(())
     }
 }

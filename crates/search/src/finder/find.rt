@@ -1,11 +1,10 @@
 // How ends are found and handed out.
-ghost use Rattle.std.specs.Prelude.{◌≡◌, ℕ, ◌+◌, ◌^◌, ◌<◌, Bool, List, [], length, IfOk};
+ghost use Rattle.std.specs.Prelude.{◌≡◌, ◌≤◌, [], length, IfOk};
 ghost use Rattle.block.specs.Calls.{answered};
-ghost use Rattle.form.specs.Form.{Form};
-ghost use Rattle.form.specs.Lines.{Place};
 ghost use Rattle.history.specs.Rules.{some};
-ghost use Rattle.marks.specs.Counting.{Nexts};
-ghost use Rattle.search.specs.Finding.{Blank, Draws, Finds, FirstLines, Goes, LoadsText, MatchesMore, ends_in};
+ghost use Rattle.limits.specs.Limits.{heaviest};
+ghost use Rattle.marks.specs.declared.count.Lines.{Lines};
+ghost use Rattle.search.specs.Finding.{Blank, Draws, Finds, Goes, Lined, LoadsText, MatchesMore, WhereFinds, ends_in};
 
 use crate::finder::Finder;
 use block::Block;
@@ -18,16 +17,15 @@ use std::alloc::{AllocError, Global};
 // How many texts are sought together.
 const TEXTS: usize = 1;
 
-// The lines of the next block, of these line feeds, where so many bytes were matched before it.
-fn lines_after<B: Block>(lines: Lines<B>, matched: usize, feeds: B) -> Lines<B>
-    ensures first { matched ≡ 0 → FirstLines B.Block.row (answered B.places) feeds result }
-    ensures next { 0 < matched → (b : Bool) × Nexts B.Block.row (answered B.places) feeds lines result b }
+// The lines of the next block, which has these line feeds, behind the block with those lines.
+fn lines_after<B: Block>(lines: Option<Lines<B>>, feeds: B) -> Lines<B>
+    ensures { Lined B.Block.row (answered B.places) feeds lines result }
 {
-    if matched == 0 {
+    let Some(mut lines) = lines else {
         return Lines::first(feeds);
-    }
-    let mut lines = lines;
-    lines.next(feeds);
+    };
+    // no recording is so long that this is refused
+    let _ = lines.next(feeds);
     lines
 }
 
@@ -39,12 +37,10 @@ impl<B: Block> Finder<B> {
         let matcher = Matcher::new(heap)?;
         let mut ends = Vec::with_capacity(heap, TEXTS)?;
         ends.push_reserved(B::none());
-        let lines = Lines::first(B::none());
         Ok(Finder {
             matcher,
             ends,
-            lines,
-            matched: 0,
+            lines: None,
         })
     }
 
@@ -54,7 +50,7 @@ impl<B: Block> Finder<B> {
         ensures matcher { self.new.matcher ≡ self.old.matcher }
     {
         self.ends[0] = B::none();
-        self.matched = 0;
+        self.lines = None;
     }
 
     // Takes a text, and stands at the start of a recording.
@@ -71,7 +67,7 @@ impl<B: Block> Finder<B> {
 
     // Back to the start of a recording.
     pub(crate) fn rewind(&mut self)
-        ensures { (F : Form) (m : List ℕ) (hs ws : List Place) → Finds B.Block.row B.places self.old F m hs ws → Finds B.Block.row B.places self.new F [] [] [] × Goes B.Block.row B.places self.new F [] }
+        ensures { WhereFinds B.Block.row B.places self.old (λ F m hs ws. Finds B.Block.row B.places self.new F [] [] [] × Goes B.Block.row B.places self.new F []) }
     {
         self.matcher.rewind();
         self.forget();
@@ -82,26 +78,23 @@ impl<B: Block> Finder<B> {
         ensures { MatchesMore B.Block.row B.places self.old self.new piece.now (length blocks.old) result }
     {
         let shown = self.matcher.match_block(piece, blocks)?;
-        self.show(shown, piece.len());
+        self.show(shown);
         Ok(self.waits())
     }
 
-    // Shows the block that was matched last, of so many bytes.
-    fn show(&mut self, shown: Shown<B>, bytes: usize)
+    // Shows the block that was matched last.
+    fn show(&mut self, shown: Shown<B>)
         ensures matcher { self.new.matcher ≡ self.old.matcher }
-        ensures matched { self.old.matched + bytes < 2 ^ 64 → self.new.matched ≡ self.old.matched + bytes }
         ensures ends { ends_in B.Block.row B.places self.new ≡ B.Block.row shown.ends }
-        ensures first { self.old.matched ≡ 0 → FirstLines B.Block.row (answered B.places) shown.feeds self.new.lines }
-        ensures next { 0 < self.old.matched → (b : Bool) × Nexts B.Block.row (answered B.places) shown.feeds self.old.lines self.new.lines b }
+        ensures lines { (l : Lines B) × (self.new.lines ≡ Some l) × Lined B.Block.row (answered B.places) shown.feeds self.old.lines l }
     {
-        self.lines = lines_after(self.lines, self.matched, shown.feeds);
-        self.matched = self.matched.saturating_add(bytes);
+        self.lines = Some(lines_after(self.lines, shown.feeds));
         self.ends[0] = shown.ends;
     }
 
     // Whether ends wait.
     pub(crate) fn waits(&self) -> bool
-        ensures { (F : Form) (m : List ℕ) (hs ws : List Place) → Finds B.Block.row B.places self.now F m hs ws → result ≡ some ws }
+        ensures { WhereFinds B.Block.row B.places self.now (λ F m hs ws. result ≡ some ws) }
     {
         self.ends[0].first(0).is_some()
     }
@@ -117,19 +110,18 @@ impl<B: Block> Finder<B> {
     pub(crate) fn draw(&mut self) -> Option<End>
         ensures { Draws B.Block.row B.places self.old self.new result }
     {
-        let Some(p) = self.ends[0].first(0) else {
-            return None;
-        };
-        let Some(end) = self.lines.place(p) else {
-            return None;
-        };
+        let p = self.ends[0].first(0)?;
+        let mut lines = self.lines?;
+        let end = lines.place(p)?;
+        self.lines = Some(lines);
         self.ends[0] = self.ends[0].and(one::<B>(p).not());
         Some(end)
     }
 
     // What the text weighs.
     pub(crate) fn weight(&self) -> usize
-        ensures { result ≡ self.now.matcher.weight }
+        ensures weight { result ≡ self.now.matcher.weight }
+        ensures light { result ≤ heaviest }
     {
         self.matcher.weight()
     }

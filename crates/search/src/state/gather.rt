@@ -1,78 +1,47 @@
 // How bytes enter a search.
-ghost use Rattle.std.specs.Prelude.{◌≡◌, ℕ, ◌+◌, ◌<◌, ◌≤◌, true, List, length, take};
-ghost use Rattle.std.proofs.Math.Seq.{paste};
+ghost use Rattle.std.specs.Prelude.{◌≡◌, ℕ, ◌+◌, ◌<◌, ◌≤◌, true, [], length};
 ghost use Rattle.block.specs.Calls.{answered};
-ghost use Rattle.form.specs.Form.{Form};
-ghost use Rattle.form.specs.Lines.{Place};
 ghost use Rattle.form.specs.Positions.{opens, tape};
 ghost use Rattle.limits.specs.Limits.{widest_kind};
 ghost use Rattle.search.specs.Entering.{Closes, EndsLine, Enters, Gathers, MatchesGathered, Takes};
-ghost use Rattle.search.specs.Telling.{Running};
+ghost use Rattle.search.specs.Telling.{WhereRuns, gathered_of};
 
 use crate::state::Search;
 use block::Block;
-use limits::WIDEST_KIND;
+use limits::LINE_FEED;
 use refusal::Refusal;
 
-// The byte that closes a line.
-const FEED: u8 = 0x0A;
-
-// Writes the part into the buffer from a place on.
-fn copy(buffer: &mut [u8], at: usize, part: &[u8])
-    requires { at + length part.now ≤ length buffer.old }
-    ensures { buffer.new ≡ paste buffer.old at part.now (length part.now) }
-{
-    for (i, byte) in part.iter().enumerate() {
-        buffer[at + i] = *byte;
-    }
-}
-
-// The first n bytes.
-fn first_of(bytes: &[u8], n: usize) -> &[u8]
-    ensures { n ≤ length bytes.now → result.now ≡ take n bytes.now }
-{
-    if n > bytes.len() {
-        return bytes;
-    }
-    &bytes[0..n]
-}
-
-// Whether so many bytes are a block of their own, with none gathered before them: they are matched where they stand.
-fn alone<B: Block>(fill: usize, bytes: usize) -> bool
-    ensures { result ≡ true → (fill ≡ 0) × (bytes ≡ answered B.places) }
-{
-    fill == 0 && bytes == B::width()
-}
-
 impl<B: Block> Search<B> {
-    // How many bytes the next block still takes.
+    // How many bytes the next block still takes. It is one at least, so that every part makes the piece shorter.
     fn room(&self) -> usize
         ensures some { 0 < result }
-        ensures fits { B.places ≤ widest_kind → self.now.fill < B.places → self.now.fill + result ≡ B.places }
+        ensures fits { B.places ≤ widest_kind → length (gathered_of self.now) < B.places → length (gathered_of self.now) + result ≡ B.places }
     {
-        B::width().saturating_sub(self.fill).max(1)
+        B::width().saturating_sub(self.gathered.len()).max(1)
     }
 
     // Keeps bytes that do not fill a block yet.
     fn gather(&mut self, part: &[u8])
-        ensures { Gathers B.Block.row B.places self.old self.new part.now }
+        ensures { Gathers self.old self.new part.now }
     {
-        let end = self.fill.saturating_add(part.len());
-        if end > WIDEST_KIND {
-            return;
-        }
-        copy(self.gathered.as_mut_slice(), self.fill, part);
-        self.fill = end;
+        // they fit wherever the kind is narrow enough to be loaded
+        let _ = self.gathered.try_extend_from_slice(part);
+    }
+
+    // Whether so many bytes are a block of their own, with none gathered before them.
+    fn alone(&self, bytes: usize) -> bool
+        ensures { result ≡ true → (gathered_of self.now ≡ []) × (bytes ≡ answered B.places) }
+    {
+        self.gathered.is_empty() && bytes == B::width()
     }
 
     // Matches the gathered bytes.
     fn match_gathered(&mut self, blocks: &mut [B]) -> Result<bool, Refusal>
         ensures { MatchesGathered B.Block.row B.places self.old self.new (length blocks.old) result }
     {
-        let n = self.fill;
-        self.fill = 0;
-        self.finder
-            .match_more(first_of(self.gathered.as_slice(), n), blocks)
+        let ends = self.finder.match_more(self.gathered.as_slice(), blocks);
+        self.gathered.clear();
+        ends
     }
 
     // Takes bytes that the next block has room for, and answers whether they fill one that holds an end. Every byte enters here.
@@ -80,11 +49,12 @@ impl<B: Block> Search<B> {
         ensures { Enters B.Block.row B.places self.old self.new part.now (length blocks.old) result }
     {
         self.taken = self.taken.saturating_add(part.len());
-        if alone::<B>(self.fill, part.len()) {
+        if self.alone(part.len()) {
+            // they are matched where they stand
             return self.finder.match_more(part, blocks);
         }
         self.gather(part);
-        if self.fill < B::width() {
+        if self.gathered.len() < B::width() {
             return Ok(false);
         }
         self.match_gathered(blocks)
@@ -94,36 +64,35 @@ impl<B: Block> Search<B> {
     pub(super) fn take(&mut self, piece: &[u8], blocks: &mut [B]) -> Result<usize, Refusal>
         ensures { Takes B.Block.row B.places self.old self.new piece.now (length blocks.old) result }
     {
-        let mut at = 0;
-        while at < piece.len() {
-            let n = self.room().min(piece.len() - at);
-            let stop = self.enter(&piece[at..at + n], blocks)?;
-            at += n;
-            if stop {
-                return Ok(at);
+        // These are no chunks of one length: the first part fills up the block that is begun.
+        let mut rest = piece;
+        while !rest.is_empty() {
+            let (part, behind) = rest.split_at(self.room().min(rest.len()));
+            rest = behind;
+            if self.enter(part, blocks)? {
+                return Ok(piece.len() - rest.len());
             }
         }
-        Ok(at)
+        Ok(piece.len())
     }
 
     // Whether a line starts behind the bytes taken.
     fn at_line_start(&self) -> bool
-        ensures { (F : Form) (bytes : List ℕ) (hs ws : List Place) → Running B.Block.row B.places self.now F bytes hs ws → result ≡ opens (tape bytes) (length bytes) }
+        ensures { WhereRuns B.Block.row B.places self.now (λ F bytes ws. result ≡ opens (tape bytes) (length bytes)) }
     {
-        if self.fill == 0 {
-            return self.finder.at_line_start();
+        match self.gathered.last() {
+            Some(byte) => *byte == LINE_FEED,
+            None => self.finder.at_line_start(),
         }
-        self.gathered[self.fill - 1] == FEED
     }
 
     // Gathers a line feed behind a last line that has none.
     fn end_line(&mut self)
         ensures { EndsLine B.Block.row B.places self.old self.new }
     {
-        if self.at_line_start() {
-            return;
+        if !self.at_line_start() {
+            self.gather(&[LINE_FEED]);
         }
-        self.gather(&[FEED]);
     }
 
     // Matches what is gathered, with a line feed behind a last line that has none.
@@ -131,7 +100,7 @@ impl<B: Block> Search<B> {
         ensures { Closes B.Block.row B.places self.old self.new (length blocks.old) result }
     {
         self.end_line();
-        if self.fill == 0 {
+        if self.gathered.is_empty() {
             return Ok(());
         }
         self.match_gathered(blocks)?;

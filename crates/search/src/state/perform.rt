@@ -1,7 +1,6 @@
 // Every call of a search, in one place: the state and the call together decide what is done.
 ghost use Rattle.std.specs.Prelude.{length};
-ghost use Rattle.history.specs.Calls.{History};
-ghost use Rattle.search.specs.Telling.{Performs, Tells, asked, told};
+ghost use Rattle.search.specs.Telling.{Serves, asked, told};
 
 use crate::calls::{Answer, Call, State};
 use crate::state::Search;
@@ -11,7 +10,7 @@ use refusal::Refusal;
 impl<B: Block> Search<B> {
     // Performs a call with these working blocks, which may hold anything.
     pub fn perform(&mut self, call: Call<'_>, blocks: &mut [B]) -> Result<Answer<B>, Refusal>
-        ensures { (h : History) → Tells B.Block.row B.places self.old h → Performs B.Block.row B.places self.old self.new blocks.old blocks.new h (asked call.entry (length blocks.old)) (told B.Block.row result) }
+        ensures { Serves B.Block.row B.places self.old self.new blocks.old blocks.new (asked call.entry (length blocks.old)) (told B.Block.row result) }
     {
         match (self.state, call) {
             (_, Call::Load(text)) => self.take_text(text),

@@ -1,17 +1,16 @@
 // What each call does in the state that it finds.
-ghost use Rattle.std.specs.Prelude.{◌≡◌, ℕ, List, [], length, IfOk, ◌≢◌};
-ghost use Rattle.form.specs.Form.{Form, weight as weight_of};
-ghost use Rattle.form.specs.Lines.{Place};
+ghost use Rattle.std.specs.Prelude.{◌≡◌, [], length, IfOk, ◌≢◌};
+ghost use Rattle.form.specs.Form.{weight as weight_of};
 ghost use Rattle.history.specs.Calls as history;
-ghost use Rattle.history.specs.Calls.{History};
 ghost use Rattle.history.specs.Rules.{close_refusal, feed_refusal, some};
-ghost use Rattle.search.specs.Telling.{Performs, Running, Tells, as_result, said, told};
+ghost use Rattle.search.specs.Telling.{Serves, ServesIdly, Tells, WhereRuns, as_result, gathered_of, said, told};
 
 use crate::calls::{Answer, State};
 use crate::finder::Finder;
 use crate::state::Search;
+use arrayvec::ArrayVec;
 use block::Block;
-use limits::{BLOCKS, BLOCKS_EACH, LONGEST_PIECE, LONGEST_RECORDING, WIDEST_KIND};
+use limits::{LONGEST_PIECE, LONGEST_RECORDING, blocks_needed};
 use refusal::Refusal;
 use std::alloc::{AllocError, Global};
 
@@ -21,12 +20,10 @@ impl<B: Block> Search<B> {
         ensures { IfOk result (λ s. Tells B.Block.row B.places s []) }
     {
         let finder = Finder::new(heap)?;
-        let gathered = vec![in heap; 0u8; WIDEST_KIND]?;
         Ok(Search {
             state: State::Empty,
             finder,
-            gathered,
-            fill: 0,
+            gathered: ArrayVec::new(),
             taken: 0,
         })
     }
@@ -35,17 +32,17 @@ impl<B: Block> Search<B> {
     fn open(&mut self)
         ensures state { self.new.state ≡ State.Open }
         ensures finder { self.new.finder ≡ self.old.finder }
-        ensures fill { self.new.fill ≡ 0 }
+        ensures gathered { gathered_of self.new ≡ [] }
         ensures taken { self.new.taken ≡ 0 }
     {
-        self.fill = 0;
+        self.gathered.clear();
         self.taken = 0;
         self.state = State::Open;
     }
 
     // Load, in every state.
     pub(super) fn take_text(&mut self, text: &[u8]) -> Result<Answer<B>, Refusal>
-        ensures { (h : History) (blocks : List B) → Tells B.Block.row B.places self.old h → Performs B.Block.row B.places self.old self.new blocks blocks h (history.load text.now) (told B.Block.row result) }
+        ensures { ServesIdly B.Block.row B.places self.old self.new (history.load text.now) (told B.Block.row result) }
     {
         self.finder.load(text)?;
         self.open();
@@ -55,7 +52,7 @@ impl<B: Block> Search<B> {
     // Rewind, where a text was loaded.
     pub(super) fn back(&mut self) -> Answer<B>
         requires { self.old.state ≢ State.Empty }
-        ensures { (h : History) (blocks : List B) → Tells B.Block.row B.places self.old h → Performs B.Block.row B.places self.old self.new blocks blocks h history.rewind (said B.Block.row result) }
+        ensures { ServesIdly B.Block.row B.places self.old self.new history.rewind (said B.Block.row result) }
     {
         self.finder.rewind();
         self.open();
@@ -64,13 +61,12 @@ impl<B: Block> Search<B> {
 
     // Why an open search refuses the working blocks: ends wait, or the blocks are too few.
     fn may_match(&self, blocks: usize) -> Result<(), Refusal>
-        ensures { (F : Form) (bytes : List ℕ) (hs ws : List Place) → Running B.Block.row B.places self.now F bytes hs ws → result ≡ as_result (close_refusal history.Open (some ws) (weight_of F) blocks) }
+        ensures { WhereRuns B.Block.row B.places self.now (λ F bytes ws. result ≡ as_result (close_refusal history.Open (some ws) (weight_of F) blocks)) }
     {
         if self.finder.waits() {
             return Err(Refusal::EndsWaiting);
         }
-        let weight = self.finder.weight();
-        if blocks < weight.saturating_mul(BLOCKS_EACH).saturating_add(BLOCKS) {
+        if blocks < blocks_needed(self.finder.weight()) {
             return Err(Refusal::TooFewBlocks);
         }
         Ok(())
@@ -78,7 +74,7 @@ impl<B: Block> Search<B> {
 
     // Why an open search refuses a piece.
     fn may_feed(&self, piece: usize, blocks: usize) -> Result<(), Refusal>
-        ensures { (F : Form) (bytes : List ℕ) (hs ws : List Place) → Running B.Block.row B.places self.now F bytes hs ws → result ≡ as_result (feed_refusal history.Open (some ws) (weight_of F) (length bytes) piece blocks) }
+        ensures { WhereRuns B.Block.row B.places self.now (λ F bytes ws. result ≡ as_result (feed_refusal history.Open (some ws) (weight_of F) (length bytes) piece blocks)) }
     {
         self.may_match(blocks)?;
         if piece > LONGEST_PIECE {
@@ -97,7 +93,7 @@ impl<B: Block> Search<B> {
         blocks: &mut [B],
     ) -> Result<Answer<B>, Refusal>
         requires { self.old.state ≡ State.Open }
-        ensures { (h : History) → Tells B.Block.row B.places self.old h → Performs B.Block.row B.places self.old self.new blocks.old blocks.new h (history.feed piece.now (length blocks.old)) (told B.Block.row result) }
+        ensures { Serves B.Block.row B.places self.old self.new blocks.old blocks.new (history.feed piece.now (length blocks.old)) (told B.Block.row result) }
     {
         self.may_feed(piece.len(), blocks.len())?;
         let n = self.take(piece, blocks)?;
@@ -107,7 +103,7 @@ impl<B: Block> Search<B> {
     // Close, of an open search.
     pub(super) fn end(&mut self, blocks: &mut [B]) -> Result<Answer<B>, Refusal>
         requires { self.old.state ≡ State.Open }
-        ensures { (h : History) → Tells B.Block.row B.places self.old h → Performs B.Block.row B.places self.old self.new blocks.old blocks.new h (history.close (length blocks.old)) (told B.Block.row result) }
+        ensures { Serves B.Block.row B.places self.old self.new blocks.old blocks.new (history.close (length blocks.old)) (told B.Block.row result) }
     {
         self.may_match(blocks.len())?;
         self.match_rest(blocks)?;
@@ -117,17 +113,14 @@ impl<B: Block> Search<B> {
 
     // Draw, in every state.
     pub(super) fn next_end(&mut self) -> Answer<B>
-        ensures { (h : History) (blocks : List B) → Tells B.Block.row B.places self.old h → Performs B.Block.row B.places self.old self.new blocks blocks h history.draw (said B.Block.row result) }
+        ensures { ServesIdly B.Block.row B.places self.old self.new history.draw (said B.Block.row result) }
     {
-        match self.finder.draw() {
-            Some(end) => Answer::Found(end),
-            None => Answer::Nothing,
-        }
+        Answer::Drawn(self.finder.draw())
     }
 
     // The loaded weight.
     pub(super) fn loaded_weight(&self) -> usize
-        ensures { (h : History) (blocks : List B) → Tells B.Block.row B.places self.now h → Performs B.Block.row B.places self.now self.now blocks blocks h history.weight (history.count result) }
+        ensures { ServesIdly B.Block.row B.places self.now self.now history.weight (history.count result) }
     {
         match self.state {
             State::Empty => 0,
@@ -137,14 +130,14 @@ impl<B: Block> Search<B> {
 
     // The block matched last, with the ends that wait.
     pub(super) fn last_block(&self) -> B
-        ensures { (h : History) (blocks : List B) → Tells B.Block.row B.places self.now h → Performs B.Block.row B.places self.now self.now blocks blocks h history.waiting (history.shown (B.Block.row result)) }
+        ensures { ServesIdly B.Block.row B.places self.now self.now history.waiting (history.shown (B.Block.row result)) }
     {
         self.finder.waiting()
     }
 
     // The bytes taken.
     pub(super) fn taken_bytes(&self) -> usize
-        ensures { (h : History) (blocks : List B) → Tells B.Block.row B.places self.now h → Performs B.Block.row B.places self.now self.now blocks blocks h history.taken (history.count result) }
+        ensures { ServesIdly B.Block.row B.places self.now self.now history.taken (history.count result) }
     {
         self.taken
     }

@@ -1,5 +1,5 @@
 // How a tree is made, and read.
-ghost use Rattle.std.specs.Prelude.{◌≡◌, ◌+◌, ◌-◌, ◌<◌, ◌≤◌, true, [], ◌∷◌, ◌++◌, length, take, drop, is_some, IfSome, IfOk, Some, None, vec_len, MatchBool, MatchOption};
+ghost use Rattle.std.specs.Prelude.{◌≡◌, ◌+◌, ◌-◌, ◌<◌, ◌≤◌, true, [], ◌∷◌, ◌++◌, length, take, drop, is_some, IfSome, IfOk, Some, None, vec_len, MatchOption};
 ghost use Rattle.std.specs.List.{slice_get};
 ghost use Rattle.tree.specs.Nodes.{falls, longest};
 ghost use Rattle.tree.specs.Stands.{Pushed, Quoted, Ranged, Same, bytes_of, nodes_of, ranges_of};
@@ -18,18 +18,19 @@ fn before(node: Node, i: usize) -> bool
 {
     match node {
         Node::Seq { parts } | Node::Or { parts } => parts < i,
-        Node::Star { part } => part < i,
-        Node::Rep {
-            least: _,
-            most: _,
-            part,
-        } => part < i,
+        Node::Star { part } | Node::Rep { part, .. } => part < i,
         Node::Cons { head, tail } => head < i && tail < i,
-        Node::Quote { from: _, to: _ }
-        | Node::Set { from: _, to: _ }
-        | Node::Out { from: _, to: _ } => true,
+        Node::Quote { .. } | Node::Set { .. } | Node::Out { .. } => true,
         Node::Start | Node::End | Node::Nil => true,
     }
+}
+
+// What a pool holds from one place up to another; nothing where it does not go so far.
+fn part<T>(pool: &[T], from: usize, to: usize) -> &[T]
+    ensures here { to ≤ length pool.now → result.now ≡ take (to - from) (drop from pool.now) }
+    ensures past { length pool.now < to → result.now ≡ [] }
+{
+    pool.get(from..to).unwrap_or(&[])
 }
 
 impl Tree {
@@ -37,13 +38,10 @@ impl Tree {
     pub fn new(heap: Global) -> Result<Tree, AllocError>
         ensures { IfOk result (λ t. (nodes_of t ≡ []) × (bytes_of t ≡ []) × (ranges_of t ≡ [])) }
     {
-        let nodes = Vec::with_capacity(heap, LONGEST)?;
-        let bytes = Vec::with_capacity(heap, LONGEST)?;
-        let ranges = Vec::with_capacity(heap, LONGEST)?;
         Ok(Tree {
-            nodes,
-            bytes,
-            ranges,
+            nodes: Vec::with_capacity(heap, LONGEST)?,
+            bytes: Vec::with_capacity(heap, LONGEST)?,
+            ranges: Vec::with_capacity(heap, LONGEST)?,
         })
     }
 
@@ -63,11 +61,7 @@ impl Tree {
         ensures value { result ≡ slice_get (nodes_of self.now) i }
         ensures parts { IfSome result (λ n. falls n i ≡ true) }
     {
-        if i < self.nodes.len() {
-            Some(self.nodes[i])
-        } else {
-            None
-        }
+        self.nodes.get(i).copied()
     }
 
     // Adds a node and answers its index; none, and nothing is changed, where a part does not stand before it or there is no room.
@@ -89,28 +83,21 @@ impl Tree {
         ensures room { length (bytes_of self.old) + length q.now ≤ longest → is_some result ≡ true }
     {
         let from = self.bytes.len();
-        if q.len() > LONGEST || from > LONGEST - q.len() {
-            return None;
-        }
-        match self.bytes.extend_from_slice(q) {
-            Ok(()) => Some(Node::Quote {
-                from,
-                to: from + q.len(),
-            }),
-            Err(_) => None,
-        }
+        let to = from.checked_add(q.len()).filter(|to| *to <= LONGEST)?;
+        self.bytes.extend_from_slice(q).ok()?;
+        Some(Node::Quote { from, to })
     }
 
-    // Keeps a range; false, and nothing is changed, where there is no room.
-    pub fn range(&mut self, r: Range) -> bool
-        ensures kept { MatchBool result (Ranged self.old self.new r) (Same self.old self.new) }
-        ensures room { length (ranges_of self.old) < longest → result ≡ true }
+    // Keeps a range; none, and nothing is changed, where there is no room.
+    pub fn range(&mut self, r: Range) -> Option<()>
+        ensures kept { MatchOption result (Same self.old self.new) (λ _. Ranged self.old self.new r) }
+        ensures room { length (ranges_of self.old) < longest → is_some result ≡ true }
     {
         if self.ranges.len() >= LONGEST {
-            return false;
+            return None;
         }
         self.ranges.push_reserved(r);
-        true
+        Some(())
     }
 
     // How many ranges are kept.
@@ -125,11 +112,7 @@ impl Tree {
         ensures here { to ≤ length (bytes_of self.now) → result.now ≡ take (to - from) (drop from (bytes_of self.now)) }
         ensures past { length (bytes_of self.now) < to → result.now ≡ [] }
     {
-        let all = self.bytes.as_slice();
-        if from > to || to > all.len() {
-            return &all[0..0];
-        }
-        &all[from..to]
+        part(self.bytes.as_slice(), from, to)
     }
 
     // The ranges from one place of their pool up to another; none where they are not there.
@@ -137,10 +120,6 @@ impl Tree {
         ensures here { to ≤ length (ranges_of self.now) → result.now ≡ take (to - from) (drop from (ranges_of self.now)) }
         ensures past { length (ranges_of self.now) < to → result.now ≡ [] }
     {
-        let all = self.ranges.as_slice();
-        if from > to || to > all.len() {
-            return &all[0..0];
-        }
-        &all[from..to]
+        part(self.ranges.as_slice(), from, to)
     }
 }

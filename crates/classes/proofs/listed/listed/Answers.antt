@@ -1,13 +1,10 @@
 use Rattle.std.proofs.Common.{◌+◌, ◌||◌, map, drop, sym, ap, ◌∙◌}
-use mathlib.Core.Bool.{or-false, or_assoc}
-use Rattle.std.proofs.lemmas.List.{drop_more, drop_all}
+use mathlib.Core.Bool.{or_assoc}
+use Rattle.std.proofs.lemmas.List.{drop_more}
 use Rattle.form.specs.Meaning.{listed}
 use Rattle.stream.specs.Sets.{has}
 use Rattle.tree.specs.Stands.{item}
 use Rattle.classes.proofs.listed.listed.Goals as goal
-
-pub loop-r-init : goal.loop-r-init
-loop-r-init c v l = ap (λ x. x || listed (map item c.args.ranges.now) v) (c.none-all.ensures v l)
 
 pub loop-r-preserved : goal.loop-r-preserved
 loop-r-preserved c v l =
@@ -18,8 +15,3 @@ loop-r-preserved c v l =
     ∙ or_assoc h _ _
     ∙ ap (λ xs. h || listed (map item xs) v) (sym (drop_more rs i (record { low = 0; high = 0 }) c.loop-r-test.true))
     ∙ c.loop-r.invariant v l
-
-pub returns : goal.returns
-returns c v l =
-    let h = has c.loop-r.all v in
-    sym (or-false h) ∙ ap (λ xs. h || listed (map item xs) v) (sym (drop_all c.loop-r.r-index c.args.ranges.now c.loop-r-test.false)) ∙ c.loop-r.invariant v l

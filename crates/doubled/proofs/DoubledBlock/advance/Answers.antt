@@ -6,5 +6,5 @@ returns g c =
     let r = g.B.Block.row in
     let m = g.met.B.Block in
     let s = c.args.self in
-    let h = c.advance_halves-early.ensures in
-    advanced g.B.Block.places (r s.early) (r s.late) (m.wide s.early) m.some c.args.enter _ _ _ _ h.early h.late
+    advanced g.B.Block.places (r s.early) (r s.late) (m.wide s.early) m.some c.args.enter _ _ _ _ c.advance-early.ensures
+    c.advance-late.ensures

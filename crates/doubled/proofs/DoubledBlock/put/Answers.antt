@@ -1,15 +1,17 @@
 use Rattle.doubled.proofs.Answered.{put_early, put_late}
 use Rattle.doubled.proofs.DoubledBlock.put.Goals as goal
 
-pub returns-in-Early : goal.returns-in-Early
-returns-in-Early g c =
+pub returns-in-Some-Early : goal.returns-in-Some-Early
+returns-in-Some-Early g c =
     let r = g.B.Block.row in
     let wide = g.met.B.Block.wide in
     let s = c.args.self in
-    put_early g.B.Block.places (r s.early) (r s.late) (wide s.early) c.args.k c.args.byte _ (wide c.put.result) c.in-Early.ensures c.put.ensures
+    let at = rw c.in-Some-Early.field-0-is at c.in-Some-Early.ensures in
+    put_early g.B.Block.places (r s.early) (r s.late) (wide s.early) c.args.k c.in-Some-Early.n c.args.byte at _ (wide c.put.result) c.put.ensures
 
-pub returns-in-Late : goal.returns-in-Late
-returns-in-Late g c =
+pub returns-in-Some-Late : goal.returns-in-Some-Late
+returns-in-Some-Late g c =
     let r = g.B.Block.row in
     let s = c.args.self in
-    put_late g.B.Block.places (r s.early) (r s.late) (g.met.B.Block.wide s.early) c.args.k _ c.args.byte c.in-Late.ensures _ c.put-in-Late.ensures
+    let at = rw c.in-Some-Late.field-0-is at c.in-Some-Late.ensures in
+    put_late g.B.Block.places (r s.early) (r s.late) (g.met.B.Block.wide s.early) c.args.k _ c.args.byte at _ c.put-in-Some-Late.ensures

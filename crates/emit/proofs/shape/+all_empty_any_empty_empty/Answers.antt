@@ -1,6 +1,6 @@
 use Rattle.std.proofs.Common.{◌&&◌, ◌||◌, sym, refl, ap, ◌∙◌, ⊎_elim, arith}
 use Rattle.std.proofs.lemmas.Bool.{eq-eqb, lt-leb}
-use Rattle.classes.proofs.Shapes.{found, found_row, none_stand, no_nil, no_cons}
+use Rattle.tree.proofs.Shapes.{found, found_row, none_stand, no_nil, no_cons}
 use Rattle.emit.proofs.Shaped.{quote_empties, set_empties, out_empties, seq_empties, or_empties, star_empties, start_empties, end_empties, none_empties, some_empties, falling_empties, all_cons, any_cons, all_first, any_first, all_rest, any_rest}
 use Rattle.emit.proofs.shape.+all_empty_any_empty_empty.Goals as goal
 

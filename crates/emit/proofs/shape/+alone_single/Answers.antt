@@ -1,5 +1,5 @@
 use Rattle.std.proofs.Common.{◌&&◌, ◌||◌, sym, refl, ap, ◌∙◌, ⊎_elim}
-use Rattle.classes.proofs.Shapes.{found, found_row, none_stand, no_nil, no_cons}
+use Rattle.tree.proofs.Shapes.{found, found_row, none_stand, no_nil, no_cons}
 use Rattle.emit.proofs.Shaped.{quote_single, set_single, out_single, seq_single, or_single, or_none, star_single, start_single, end_single, rep_single, alone_cons, alone_more, alone_rest, falls_test}
 use Rattle.emit.proofs.shape.+alone_single.Goals as goal
 

@@ -1,20 +1,14 @@
 -- A full group more, and then the bits that are left. Assumes nothing.
-use Rattle.std.proofs.Common.{◌≡◌, ◌+◌, ◌-◌, ◌*◌, ◌/◌, ◌%◌, min, false, ltb, sym, refl, ap, ◌∙◌, arith, le-ltb}
+use Rattle.std.proofs.Common.{◌≡◌, ◌-◌, ◌*◌, ◌/◌, ◌%◌, min, false, ltb, sym, ap, ◌∙◌, arith, le-ltb}
 use Rattle.std.proofs.lemmas.Nat.{one_shl}
 use Rattle.block.specs.Rows.{tab}
 use Rattle.block.specs.Calls.{answered}
 use Rattle.block.proofs.Rows.{bit_at}
-use Rattle.marks.proofs.Bytes.{put_more, put_last, below_whole}
+use Rattle.marks.proofs.Bytes.{put_last, below_whole}
 use Rattle.marks.proofs.ones.below.Goals as goal
 
 pub loop-k-init : goal.loop-k-init
 loop-k-init g c = λ i h. bit_at g.B.Block.places _ (λ _. false) c.none-ones.ensures i h ∙ sym (le-ltb i 0 (omega arith))
-
-pub loop-k-preserved : goal.loop-k-preserved
-loop-k-preserved g c = λ i h.
-    let k = c.loop-k.k in
-    let e : 8 * k + 8 ≡ 8 * (k + 1) = omega arith in
-    put_more g.B.Block.places _ _ k 8 255 (omega arith) refl (omega arith) c.put-ones.ensures c.loop-k.invariant i h ∙ ap (ltb i) e
 
 pub returns : goal.returns
 returns g c =

@@ -10,4 +10,4 @@ returns-in_err-next c =
 
 pub returns-in_default : goal.returns-in_default
 returns-in_default c =
-    record { same = search rules; reads = λ σ. refuse_shut _ _ _ _ _ _ _ refl c.in_ok-next.ensures.token c.start.ensures σ c.in_default.not-Close }
+    record { same = search rules; reads = λ σ. rw c.unexpected.ensures (refuse_shut _ _ _ _ _ _ _ refl c.in_ok-next.ensures.token refl σ c.in_default.not-Close) }

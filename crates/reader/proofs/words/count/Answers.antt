@@ -1,28 +1,31 @@
-use Rattle.std.proofs.Common.{◌∷◌, sym, refl, ◌∙◌, arith, rules}
+use Rattle.std.proofs.Common.{◌∷◌, Some, sym, ap, refl, ◌∙◌, arith}
+use Rattle.std.proofs.lemmas.Option.{none-some}
 use Rattle.lexer.specs.Tokens.{word}
 use Rattle.grammar.proofs.Going.{refuse_word, refuse_number, no_number}
 use Rattle.reader.proofs.Parts.{word_on}
+use Rattle.reader.proofs.Exits.{exits, lacks, has}
 use Rattle.reader.proofs.words.count.Goals as goal
-use Rattle.reader.proofs.words.count.Goals.{then-n-gt-LARGEST-via-then-n-gt-LARGEST, then-n-gt-LARGEST-via-else-n-gt-LARGEST+then-n-from}
+use Rattle.reader.proofs.words.count.Goals.{in_default-via-in-Ok+else-n-least, in_default-via-in_default}
 
-pub returns-in_default : goal.returns-in_default
-returns-in_default c =
-    record { same = search rules; reads = λ w σ b. refuse_word _ w σ (no_number _ w _ b (λ n e. c.in_default.not-Some n (c.number.ensures ∙ e))) refl c.in_ok-w.ensures.reads c.start.ensures }
+pub returns-in_err-n-clause-reads : goal.returns-in_err-n-clause-reads
+returns-in_err-n-clause-reads c =
+    let none = lacks c.number.result _ _ c.ok_or.ensures.value c.in_err-n.was in
+    exits _ _ _ _ c.from_residual-in_err-n.ensures.1
+    (λ w σ b. rw (none.1, c.unexpected.ensures) (refuse_word _ w σ (no_number _ w _ b (λ n e. none-some n (sym none.0 ∙ c.number.ensures ∙ e))) refl c.in_ok-w.ensures.reads refl))
 
-pub returns-then-n-gt-LARGEST : goal.returns-then-n-gt-LARGEST
-returns-then-n-gt-LARGEST c =
-    record {
-      same = search rules;
-      reads = λ w σ b.
-          refuse_number _ w _ c.in-Some.n σ b (sym c.in-Some.ensures)
-          (λ h. elim c.then-n-gt-LARGEST.branch [
-            | then-n-gt-LARGEST-via-then-n-gt-LARGEST v ↦ omega (arith, h.1, v.if-n-gt-LARGEST.true)
-            | then-n-gt-LARGEST-via-else-n-gt-LARGEST+then-n-from v ↦ omega (arith, h.0, v.from.ensures, v.if-n-from.true)
-          ])
-          refl c.in_ok-w.ensures.reads c.start-then-n-gt-LARGEST.ensures;
-    }
-
-pub returns : goal.returns
-returns c =
+pub returns-in-Ok-clause-reads : goal.returns-in-Ok-clause-reads
+returns-in-Ok-clause-reads c =
     let l = c.in_ok-w.ensures.reads in
-    record { same = search rules; reads = record { reads = λ us r t. (word _ ∷ us, (_, _, l, t), (_, refl, sym c.in-Some.ensures)); least = omega (arith, c.from.ensures, c.if-n-from.false); most = c.if-n-gt-LARGEST.false; on = word_on l } }
+    let is = has c.number.result _ _ c.ok_or.ensures.value c.in_ok-n.was in
+    record { reads = λ us r t. (word _ ∷ us, (_, _, l, t), (_, refl, sym c.number.ensures ∙ is ∙ ap Some (sym c.in-Ok.ensures.1))); least = c.if-n-least.true; most = omega (arith, c.in-Ok.ensures.0, c.in-Ok.ensures.1); on = word_on l }
+
+pub returns-in_default-clause-reads : goal.returns-in_default-clause-reads
+returns-in_default-clause-reads c =
+    let is = has c.number.result _ _ c.ok_or.ensures.value c.in_ok-n.was in
+    λ w σ b.
+    refuse_number _ w _ c.in_ok-n.n σ b (sym c.number.ensures ∙ is)
+    (λ h. elim c.in_default.branch [
+      | in_default-via-in-Ok+else-n-least v ↦ omega (arith, h.0, v.in-Ok.ensures.1, v.if-n-least.false)
+      | in_default-via-in_default v ↦ v.in_default.ensures (omega (arith, h.1))
+    ])
+    refl c.in_ok-w.ensures.reads c.start.ensures

@@ -9,4 +9,4 @@ returns-in_err-w c =
 
 pub returns-in_default : goal.returns-in_default
 returns-in_default c =
-    record { same = search rules; reads = λ w σ b. refuse_wordy _ _ _ _ _ _ _ refl c.in_ok-w.ensures.token c.start.ensures w σ b c.in_default.not-Word }
+    record { same = search rules; reads = λ w σ b. rw c.unexpected.ensures (refuse_wordy _ _ _ _ _ _ _ refl c.in_ok-w.ensures.token refl w σ b c.in_default.not-Word) }

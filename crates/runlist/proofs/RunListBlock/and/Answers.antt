@@ -1,8 +1,9 @@
-use Rattle.std.proofs.Common.{false}
-use Rattle.runlist.specs.declared.Op.TheVariants.{And}
-use Rattle.runlist.proofs.Lists.{bits}
+use Rattle.std.proofs.Common.{Bool, ◌&&◌, false, rules}
+use Rattle.runlist.specs.Lists.{lit}
 use Rattle.runlist.proofs.Rows.{row_merged}
 use Rattle.runlist.proofs.RunListBlock.and.Goals as goal
 
 pub returns : goal.returns
-returns c = row_merged And 64 (bits c.args.self) (bits c.args.other) false _ c.merge.ensures.row
+returns c =
+    let f = (λ (x y k : Bool). x && y) in
+    row_merged f 64 (lit c.args.self) (lit c.args.other) false _ (c.merge.ensures.row f (λ x y k r post. search rules))

@@ -1,22 +1,8 @@
-use Rattle.std.proofs.Common.{ℕ, ◌+◌, ◌*◌, ap, ◌∙◌, arith}
-use Rattle.block.specs.Rows.{bit_of}
-use Rattle.stream.specs.Tables.{rows}
-use Rattle.stream.proofs.Backs.{filled}
+use Rattle.std.proofs.Common.{◌∙◌}
+use Rattle.stream.proofs.Tables.{held_front}
 use Rattle.stream.proofs.transposition.back.Goals as goal
-use Rattle.stream.proofs.transposition.back.Goals.{then-i-eq0, else-i-eq0}
-
-pub loop-i-init : goal.loop-i-init
-loop-i-init g c = record { group = λ h. absurd (h (omega arith)); done = λ p l. absurd (omega arith) }
-
-pub loop-i-preserved : goal.loop-i-preserved
-loop-i-preserved g c =
-    filled (rows g.B.Block.row c.args.table.now) c.loop-i.i c.if-i-eq0.gathered c.loop-i.buffer (omega arith)
-    (λ j n hj hn.
-    elim c.if-i-eq0.branch [
-      | then-i-eq0 x ↦ ap (λ (y : ℕ). bit_of y (8 * n + j)) x.gathered-is ∙ x.collect-gathered.ensures j n hj hn
-      | else-i-eq0 x ↦ ap (λ (y : ℕ). bit_of y (8 * n + j)) x.gathered-is ∙ c.loop-i.invariant.group x.if-i-eq0.false j n hj hn
-    ])
-    c.loop-i.invariant.done
 
 pub returns : goal.returns
-returns g c = let a = c.in_ok-agree.ensures in (a.0, a.1, λ i l. c.loop-i.invariant.done i (omega arith))
+returns g c =
+    let a = c.in_ok-agree.ensures in
+    (a.0, a.1, λ i l. c.write_back.ensures i l ∙ held_front g.B.Block.row c.args.table.now _ i (rw c.unwrap-blocks.ensures at c.first_chunk.ensures.cases).same)

@@ -1,9 +1,10 @@
-use Rattle.std.proofs.Common.{◌≡◌, ℕ, ◌<◌, drop}
+use Rattle.std.proofs.Common.{◌≡◌, ℕ, ◌<◌, length}
 use Rattle.block.specs.Calls.{none_row}
 use Rattle.stream.specs.Tables.{rows}
 use Rattle.stream.proofs.transposition.clear.Given as goal
 
-abbrev pub invariant-loop-j : goal.invariant-loop-j
-invariant-loop-j g l =
-    ((j : ℕ) → j < l.j → rows g.B.Block.row l.table j ≡ none_row g.B.Block.places)
-    × (drop 8 l.table ≡ drop 8 l.initial.table)
+abbrev pub invariant-loop-block : goal.invariant-loop-block
+invariant-loop-block g l = record {
+  eight : length l.block-items ≡ 8;
+  first : (j : ℕ) → j < l.block-index → rows g.B.Block.row l.block-items j ≡ none_row g.B.Block.places;
+}

@@ -1,22 +1,14 @@
-use Rattle.std.proofs.Common.{arith, rules}
+use Rattle.std.proofs.Common.{◌*◌, ◌^◌, arith, mod-lt, pow_pos}
+use lib.Bits.{and_lt, or_lt}
 use Rattle.block.proofs.Groups.{row_put}
 use Rattle.word.proofs.Words.{put_word}
 use Rattle.word.proofs.WordBlock.put.Goals as goal
 
-pub overflow_sub-result : goal.overflow_sub-result
-overflow_sub-result c = (put_word c.args.self.bits c.args.k c.args.byte c.args.self.fits c.if-k-ge-GROUPS.false (omega arith)).under
-
-pub overflow_add-result : goal.overflow_add-result
-overflow_add-result c =
-    let d = put_word c.args.self.bits c.args.k c.args.byte c.args.self.fits c.if-k-ge-GROUPS.false (omega arith) in
-    let f = d.fits in search rules
-
 pub invariant_of-result : goal.invariant_of-result
-invariant_of-result c =
-    let d = put_word c.args.self.bits c.args.k c.args.byte c.args.self.fits c.if-k-ge-GROUPS.false (omega arith) in
-    record { fits = d.fits }
+invariant_of-result c = record { fits = or_lt 64 _ _ (and_lt 64 _ _ c.args.self.fits (omega arith)) (mod-lt (c.from.result * 2 ^ (8 * c.args.k)) (pow_pos 64)) }
 
 pub returns : goal.returns
 returns c =
-    let d = put_word c.args.self.bits c.args.k c.args.byte c.args.self.fits c.if-k-ge-GROUPS.false (omega arith) in
-    row_put c.args.self.bits c.args.k c.args.byte _ (omega arith) d.is 64 (omega arith)
+    let k = c.args.k in
+    let x = c.args.self.bits in
+    rw c.from.ensures (row_put x k c.args.byte _ (omega arith) (put_word x k c.args.byte c.args.self.fits c.if-k-ge-GROUPS.false (omega arith)) 64 (omega arith))

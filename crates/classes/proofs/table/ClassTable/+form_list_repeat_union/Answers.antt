@@ -1,10 +1,7 @@
 use Rattle.std.proofs.Common.{refl, ⊎_elim}
-use Rattle.classes.proofs.Shapes.{found, found_row, none_stands, none_stand, no_nil, no_cons}
-use Rattle.classes.proofs.Adding.{quote_adds, set_adds, out_adds, seq_adds, or_adds, star_adds, rep_adds, start_adds, end_adds, cons_adds, any_adds, nil_adds, nothing_adds}
+use Rattle.tree.proofs.Shapes.{found, found_row, none_stand, no_nil, no_cons}
+use Rattle.classes.proofs.Adding.{quote_adds, set_adds, out_adds, seq_adds, or_adds, star_adds, rep_adds, start_adds, end_adds, cons_adds, any_adds, nil_adds}
 use Rattle.classes.proofs.table.ClassTable.+form_list_repeat_union.Goals as goal
-
-pub form-returns-in_default : goal.form-returns-in_default
-form-returns-in_default t c f h = absurd (none_stands _ _ f c.in_default.ensures.value h)
 
 pub form-returns-in-Quote : goal.form-returns-in-Quote
 form-returns-in-Quote t c f h = quote_adds _ _ _ _ _ (found _ _ _ _ f c.in-Quote.is c.in-Some.ensures.value h) c.bytes.ensures.here c.quote.ensures
@@ -46,11 +43,5 @@ list-returns-in-Cons t c fs h = cons_adds _ _ _ _ _ (found_row _ _ _ _ fs c.in-C
 pub list-returns-in_default-node : goal.list-returns-in_default-node
 list-returns-in_default-node t c fs h = nil_adds _ _ (found_row _ _ _ _ fs refl c.in-Some.ensures.value h) c.in_default-node.not-Cons refl
 
-pub union-returns-in_default : goal.union-returns-in_default
-union-returns-in_default t c fs h = absurd (none_stand _ _ fs c.in_default.ensures.value h)
-
 pub union-returns-in-Cons : goal.union-returns-in-Cons
 union-returns-in-Cons t c fs h = any_adds _ _ _ _ _ (found_row _ _ _ _ fs c.in-Cons.is c.in-Some.ensures.value h) c.form.ensures c.list.ensures
-
-pub union-returns-in_default-node : goal.union-returns-in_default-node
-union-returns-in_default-node t c fs h = nothing_adds _ _ _ (found_row _ _ _ _ fs refl c.in-Some.ensures.value h) c.in_default-node.not-Cons c.none.ensures c.put.ensures

@@ -3,5 +3,5 @@ use Rattle.form.specs.Positions.{only}
 use Rattle.classes.specs.Numbered.{Adds}
 use Rattle.classes.proofs.table.ClassTable.quote.Given as goal
 
-abbrev pub invariant-loop-b : goal.invariant-loop-b
-invariant-loop-b l = Adds l.initial.self l.self (map only (take l.b-index l.bytes))
+abbrev pub invariant-loop-byte : goal.invariant-loop-byte
+invariant-loop-byte l = Adds l.initial.self l.self (map only (take l.byte-index l.bytes))

@@ -1,13 +1,17 @@
-use Rattle.std.proofs.Common.{◌&&◌, Some, sym, refl, ap, ◌∙◌, ⊎_elim, arith}
-use Rattle.classes.proofs.Shapes.{found, found_row, none_stands, none_stand, no_nil, no_cons}
-use Rattle.emit.proofs.Walked.{quote_walks, set_walks, out_walks, seq_walks, or_walks, star_walks, rep_walks, start_walks, end_walks, order_one, order_more, order_rest, either_one, either_more, either_rest, into_walks, on_walks, run_walks, loop_walks, falling_walks, never_walks, repeat_walks, copy_walks, option_into, option_on}
+use Rattle.std.proofs.Common.{◌≡◌, ◌+◌, ◌-◌, ◌&&◌, cond, eqb, length, Some, sym, refl, ap, ◌∙◌, ⊎_elim, arith}
+use Rattle.tree.proofs.Shapes.{found, found_row, none_stands, none_stand, no_nil, no_cons}
+use Rattle.std.proofs.lemmas.Bool.{ne_eqb}
+use Rattle.theory.specs.Written.{classes, pattern}
+use Rattle.emit.specs.declared.place.Place.{Place}
+use Rattle.emit.proofs.Joining.{star_taken, gather_taken}
+use Rattle.emit.proofs.Walked.{quote_walks, set_walks, out_walks, seq_walks, or_walks, star_walks, rep_walks, start_walks, end_walks, order_one, order_more, order_rest, either_one, either_more, either_rest, into_walks, on_walks, run_walks, loop_walks, falling_walks, never_walks, repeat_walks, none_left, copy_writes, option_into, option_on}
 use Rattle.emit.proofs.code.Code.+copies_either_form_in_order_one_of_repeat_star_up_to.Goals as goal
 
 pub form-returns-in_default : goal.form-returns-in_default
 form-returns-in_default t c f h = absurd (none_stands _ _ f c.in_default.ensures.value h)
 
 pub form-returns-in-Quote : goal.form-returns-in-Quote
-form-returns-in-Quote t c f h = quote_walks c.args.class c.quote.result c.args.place c.args.self.now c.quote.new.self _ _ _ _ (found _ _ _ _ f c.in-Quote.is c.in-Some.ensures.value h) c.saturating_sub.ensures c.both.ensures c.quote.ensures
+form-returns-in-Quote t c f h = quote_walks c.args.class c.quote.result c.args.place c.args.self.now c.quote.new.self _ _ _ _ (found _ _ _ _ f c.in-Quote.is c.in-Some.ensures.value h) c.saturating_sub.ensures c.stretched.ensures c.quote.ensures
 
 pub form-returns-in-Set : goal.form-returns-in-Set
 form-returns-in-Set t c f h = ⊎_elim (λ is. set_walks c.args.class c.leaf.result c.args.place c.args.self.now c.leaf.new.self _ _ (found _ _ _ _ f is.2 c.in-Some.ensures.value h) c.leaf.ensures) (λ is. out_walks c.args.class c.leaf.result c.args.place c.args.self.now c.leaf.new.self _ _ (found _ _ _ _ f is.2 c.in-Some.ensures.value h) c.leaf.ensures) c.in-Set.is
@@ -40,7 +44,7 @@ pub in_order-returns-then-no_form : goal.in_order-returns-then-no_form
 in_order-returns-then-no_form t c fs h = order_one c.args.class c.form.result c.args.place c.args.self.now c.form.new.self _ _ _ (found_row _ _ _ _ fs c.in-Cons.is c.in-Some.ensures.value h) c.no_form.ensures c.if-no_form.true c.form.ensures
 
 pub in_order-returns-else-no_form : goal.in_order-returns-else-no_form
-in_order-returns-else-no_form t c fs h = order_more c.args.class c.in_order.result c.form-next.result c.args.place c.ahead.result c.behind.result c.last_before-last.result c.first_behind-first.result c.args.self.now c.form-next.new.self c.in_order.new.self _ _ _ (found_row _ _ _ _ fs c.in-Cons.is c.in-Some.ensures.value h) c.no_form.ensures c.if-no_form.false c.last_before-last.ensures c.first_behind-first.ensures c.ahead.ensures c.behind.ensures c.form-next.ensures c.in_order.ensures
+in_order-returns-else-no_form t c fs h = order_more c.args.class c.in_order.result c.form-next.result c.args.place c.ahead-ahead.result c.behind-behind.result c.all_empty.result c.empty.result c.args.self.now c.form-next.new.self c.in_order.new.self _ _ _ (found_row _ _ _ _ fs c.in-Cons.is c.in-Some.ensures.value h) c.no_form.ensures c.if-no_form.false c.all_empty.ensures c.empty.ensures c.ahead-ahead.ensures c.behind-behind.ensures c.form-next.ensures c.in_order.ensures
 
 pub in_order-returns-in_default-node : goal.in_order-returns-in_default-node
 in_order-returns-in_default-node t c fs h = order_rest c.args.class c.args.place c.args.self.now c.stay.new.self (found_row _ _ _ _ fs refl c.in-Some.ensures.value h) c.in_default-node.not-Cons (c.stay.ensures c.args.place.depth)
@@ -61,13 +65,13 @@ pub either-returns-in-Some : goal.either-returns-in-Some
 either-returns-in-Some t c f fs a b = into_walks c.args.class c.one_of.result c.form-next.result c.in-Some.row c.args.place c.deeper.result c.args.self.now f fs _ _ a b c.put.new.self c.form-next.new.self c.put-in-Some.new.self c.one_of.new.self c.in-Some.is c.deeper.ensures.place c.deeper.ensures.depth c.put.ensures c.form-next.ensures c.put-in-Some.ensures c.one_of.ensures
 
 pub either-returns-in-None : goal.either-returns-in-None
-either-returns-in-None t c f fs a b = on_walks c.args.class c.one_of-next.result c.form-next-in-None.result c.next_gather-row.result c.args.place c.deeper-in-None.result c.args.self.now f fs _ _ a b c.next_gather-row.new.self c.put-in-None.new.self c.form-next-in-None.new.self c.put-in-None-2.new.self c.put-in-None-3.new.self c.one_of-next.new.self c.put-in-None-4.new.self c.gathered.result c.next_gather-row.ensures.number c.in-None.is c.deeper-in-None.ensures.place c.deeper-in-None.ensures.depth c.gathered.ensures c.next_gather-row.ensures.counted c.put-in-None.ensures c.form-next-in-None.ensures c.put-in-None-2.ensures c.put-in-None-3.ensures c.one_of-next.ensures c.put-in-None-4.ensures
+either-returns-in-None t c f fs a b = on_walks c.args.class c.one_of-next.result c.form-next-in-None.result c.fresh-row.result c.args.place c.deeper-in-None.result c.args.self.now f fs _ _ a b _ c.put-in-None.new.self c.form-next-in-None.new.self c.put-in-None-2.new.self c.put-in-None-3.new.self c.one_of-next.new.self c.put-in-None-4.new.self c.gathered.result c.fresh-row.ensures.here c.in-None.is c.deeper-in-None.ensures.place c.deeper-in-None.ensures.depth c.gathered.ensures (gather_taken _ _ refl c.fresh-row.ensures.counted refl refl) c.put-in-None.ensures c.form-next-in-None.ensures c.put-in-None-2.ensures c.put-in-None-3.ensures c.one_of-next.ensures c.put-in-None-4.ensures
 
 pub star-returns-then-single : goal.star-returns-then-single
 star-returns-then-single t c f h = run_walks c.args.class _ c.args.place c.args.self.now c.run.new.self f (sym (c.single.ensures f c.args.class h) ∙ c.if-single.true) (λ few. omega (arith, c.saturating_add.ensures)) (λ few. c.run.ensures few c.args.place.depth)
 
 pub star-returns : goal.star-returns
-star-returns t c f h = loop_walks c.args.class c.form-next.result c.next_star-row.result c.args.place c.round.result c.args.self.now c.next_star-row.new.self c.put.new.self c.put-2.new.self c.form-next.new.self c.put-3.new.self c.put-4.new.self c.stay.new.self f c.next_star-row.ensures.number (sym (c.single.ensures f c.args.class h) ∙ c.if-single.false) c.round.ensures c.next_star-row.ensures.counted c.put.ensures c.put-2.ensures (c.form-next.ensures f h) c.put-3.ensures c.put-4.ensures (c.stay.ensures 0)
+star-returns t c f h = loop_walks c.args.class c.form-next.result c.fresh-row.result c.args.place c.round.result c.args.self.now _ c.put.new.self c.put-2.new.self c.form-next.new.self c.put-3.new.self c.put-4.new.self c.stay.new.self f c.fresh-row.ensures.here (sym (c.single.ensures f c.args.class h) ∙ c.if-single.false) c.round.ensures (star_taken _ _ refl c.fresh-row.ensures.counted refl refl) c.put.ensures c.put-2.ensures (c.form-next.ensures f h) c.put-3.ensures c.put-4.ensures (c.stay.ensures 0)
 
 pub repeat-returns-then-least-most : goal.repeat-returns-then-least-most
 repeat-returns-then-least-most t c f h = falling_walks c.args.class c.leaf.result c.args.place c.args.self.now c.leaf.new.self _ _ f (omega arith) c.leaf.ensures
@@ -76,13 +80,32 @@ pub repeat-returns-then-most-eq0 : goal.repeat-returns-then-most-eq0
 repeat-returns-then-most-eq0 t c f h = never_walks c.args.class c.args.place c.args.self.now c.stay.new.self _ _ f (omega arith) (omega arith) (c.stay.ensures c.args.place.depth)
 
 pub repeat-returns : goal.repeat-returns
-repeat-returns t c f h = repeat_walks c.args.class c.up_to.result c.copies-next.result c.args.place c.ahead.result c.behind.result c.both-first.result c.empty-skipped.result c.args.self.now c.copies-next.new.self c.up_to.new.self _ _ f c.optional.result c.optional.ensures (omega arith) (λ z. omega arith) (c.empty-skipped.ensures f c.args.class h) (c.both-first.ensures ∙ ap (λ b. c.args.place.first && b) c.skips.ensures) c.ahead.ensures c.behind.ensures (c.copies-next.ensures f h (c.empty-skipped.ensures f c.args.class h)) (c.up_to.ensures f h (c.empty-skipped.ensures f c.args.class h))
+repeat-returns t c f h = repeat_walks c.args.class c.up_to.result c.copies-next.result c.args.place c.ahead.result c.behind-behind.result c.skips.result c.empty.result c.args.self.now c.copies-next.new.self c.up_to.new.self _ _ f (omega arith) (λ z. omega arith) (c.empty.ensures f c.args.class h) c.skips.ensures c.ahead.ensures c.behind-behind.ensures (c.copies-next.ensures f h (c.empty.ensures f c.args.class h)) (c.up_to.ensures f h (c.empty.ensures f c.args.class h))
+
+pub copies-loop-left-preserved : goal.copies-loop-left-preserved
+copies-loop-left-preserved t c f h e is few =
+    let old = c.loop-left.invariant f h e is few in
+    let left = c.loop-left.left in
+    let one = c.form-next.ensures f h few in
+    record {
+      into = ap (λ (s : Place). s.into) c.behind-place.ensures ∙ old.into;
+      next = one.0 ∙ sym (ap (λ b. cond b c.args.part.class (c.args.part.class + length (classes f))) (ne_eqb (c.args.count - (left - 1)) 0 (λ z. omega arith)));
+      left = λ z w. old.left z
+          (copy_writes (left - 1) left c.loop-left.place c.ahead-ahead.result c.behind-place.result c.args.part.empty c.skips.result (pattern f c.args.part.class) c.loop-left.self c.form-next.new.self z
+          (omega arith) e c.skips.ensures old.into c.ahead-ahead.ensures c.behind-place.ensures one.1 w);
+    }
 
 pub copies-returns : goal.copies-returns
-copies-returns t c f h e is few = copy_walks c.args.class c.copies.result c.args.next c.form-next.result c.args.left c.args.place c.ahead.result c.behind.result c.args.skipped f (λ z. omega arith) e few c.both-last.result c.both-first.result c.args.self.now c.form-next.new.self c.copies.new.self (c.both-last.ensures ∙ ap (λ b. c.args.place.last && b) c.skips.ensures) c.both-first.ensures is c.ahead.ensures c.behind.ensures (c.form-next.ensures f h) (λ o. c.copies.ensures f h e o few)
+copies-returns t c f h e is few =
+    let all = c.loop-left.invariant f h e is few in
+    let p = c.loop-left.place in
+    let here : c.args.count - c.loop-left.left ≡ c.args.count = omega arith in (
+      all.next ∙ ap (λ n. cond (eqb n 0) c.args.part.class (c.args.part.class + length (classes f))) here,
+      all.left c.loop-left.self (none_left c.args.part.class p.depth p.into p.first p.last c.loop-left.left (pattern f c.args.part.class) c.loop-left.self all.into (omega arith)),
+    )
 
 pub up_to-returns-in-Some : goal.up_to-returns-in-Some
-up_to-returns-in-Some t c f h e few = option_into c.args.class c.up_to.result c.args.next c.form-next.result c.args.left c.args.place c.ahead.result c.behind.result c.args.skipped f (λ z. omega arith) e few c.in-Some.row c.both-first.result c.put.new.self c.form-next.new.self c.up_to.new.self c.both-first.ensures c.ahead.ensures (c.behind.ensures ∙ (λ i. record { first = c.both-first.result; last = c.args.place.last; into = c.in-Some.is i; depth = c.args.place.depth })) (c.form-next.ensures f h) (c.up_to.ensures f h e few) c.args.self.now c.in-Some.is c.put.ensures
+up_to-returns-in-Some t c f h e few = option_into c.args.part.class c.up_to.result c.args.next c.form-next.result c.args.left c.args.place c.ahead-ahead.result c.behind-behind.result c.args.part.empty f (λ z. omega arith) e few c.in-Some.row c.put.new.self c.form-next.new.self c.up_to.new.self c.ahead-ahead.ensures (c.behind-behind.ensures ∙ (λ i. record { first = c.args.place.first && c.args.part.empty; last = c.args.place.last; into = c.in-Some.is i; depth = c.args.place.depth })) (c.form-next.ensures f h) (c.up_to.ensures f h e few) c.args.self.now c.in-Some.is c.put.ensures
 
 pub up_to-returns-in-None : goal.up_to-returns-in-None
-up_to-returns-in-None t c f h e few = option_on c.args.class c.up_to-next.result c.args.next c.form-next-in-None.result c.args.left c.args.place c.ahead-in-None.result c.gathered-place.result c.args.skipped f (λ z. omega arith) e few c.next_gather-row.result c.both-first.result c.put-in-None.new.self c.form-next-in-None.new.self c.up_to-next.new.self c.both-first.ensures c.ahead-in-None.ensures (c.gathered-place.ensures ∙ (λ i. record { first = (c.behind-in-None.ensures i).first; last = (c.behind-in-None.ensures i).last; into = Some c.next_gather-row.result; depth = (c.behind-in-None.ensures i).depth })) (c.form-next-in-None.ensures f h) (c.up_to-next.ensures f h e few) c.args.self.now c.next_gather-row.new.self c.put-in-None-2.new.self c.next_gather-row.ensures.number c.in-None.is c.next_gather-row.ensures.counted c.put-in-None.ensures c.put-in-None-2.ensures
+up_to-returns-in-None t c f h e few = option_on c.args.part.class c.up_to-next.result c.args.next c.form-next-in-None.result c.args.left c.args.place c.ahead-ahead.result c.gathered.result c.args.part.empty f (λ z. omega arith) e few c.fresh-row.result c.put-in-None.new.self c.form-next-in-None.new.self c.up_to-next.new.self c.ahead-ahead.ensures (c.gathered.ensures ∙ (λ i. record { first = (c.behind-behind.ensures i).first; last = (c.behind-behind.ensures i).last; into = Some c.fresh-row.result; depth = (c.behind-behind.ensures i).depth })) (c.form-next-in-None.ensures f h) (c.up_to-next.ensures f h e few) c.args.self.now _ c.put-in-None-2.new.self c.fresh-row.ensures.here c.in-None.is (gather_taken _ _ refl c.fresh-row.ensures.counted refl refl) c.put-in-None.ensures c.put-in-None-2.ensures

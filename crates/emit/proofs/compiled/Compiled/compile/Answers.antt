@@ -17,8 +17,8 @@ returns c F h light =
     let w₁ =
     whole F c.form.result 0 c.outermost.result c.begin.new.self c.form.new.self light c.outermost.ensures c.begin.ensures.steps c.begin.ensures.carry
     (c.begin.ensures.star ∙ first) c.begin.ensures.gather (omega arith) (c.form.ensures F h) in
-    let behind : c.stars-behind.result ≡ stars_at (class_count F) + stars (written F) =
-    c.stars-behind.ensures ∙ w₁.rows ∙ ap (λ n. n + stars (written F)) (c.begin.ensures.star ∙ first) in
+    let behind : c.form.new.self.star ≡ stars_at (class_count F) + stars (written F) =
+    w₁.rows ∙ ap (λ n. n + stars (written F)) (c.begin.ensures.star ∙ first) in
     let w₂ =
     whole F c.form-2.result (stars_at (class_count F) + stars (written F)) c.outermost-2.result c.begin-2.new.self c.form-2.new.self light c.outermost-2.ensures c.begin-2.ensures.steps c.begin-2.ensures.carry
     (c.begin-2.ensures.star ∙ first) (c.begin-2.ensures.gather ∙ behind) (omega arith) (c.form-2.ensures F h) in
@@ -27,6 +27,6 @@ returns c F h light =
       sets = filled;
       classes = count;
       stars = c.saturating_sub.ensures ∙ omega arith;
-      carries = c.carries.ensures ∙ w₂.carries ∙ omega (arith, c.begin-2.ensures.carry);
-      rows = c.gathers.ensures ∙ w₂.gathering ∙ omega (arith, c.begin-2.ensures.gather);
+      carries = w₂.carries ∙ omega (arith, c.begin-2.ensures.carry);
+      rows = w₂.gathering ∙ omega (arith, c.begin-2.ensures.gather);
     }

@@ -32,8 +32,7 @@ invariant_of-self-2 c =
       stars = compiled_stars F x n C;
       rows = omega arith;
       fits = compiled_fits F x n C deep few;
-      long = c.args.self.now.long;
-      wide = c.args.self.now.wide;
+      few = let n = C.carries in omega arith;
     }
 
 pub returns : goal.returns

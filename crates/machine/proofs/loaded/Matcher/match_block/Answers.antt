@@ -1,5 +1,4 @@
-use Rattle.std.proofs.Common.{◌≡◌, ℕ, ◌<◌, ◌≤◌, List, length, get_or, vec_items, refl, ap, ◌∙◌, subst, arith}
-use Rattle.block.specs.Rows.{bit}
+use Rattle.std.proofs.Common.{◌≡◌, ℕ, ◌<◌, ◌≤◌, List, length, get_or, refl, ◌∙◌, subst, arith}
 use Rattle.block.specs.Calls.{widest}
 use Rattle.form.specs.Form.{Form}
 use Rattle.stream.specs.Tables.{rows}
@@ -32,7 +31,7 @@ returns-then-piece-width g c =
       S.1,
       matches_full piece w (omega arith) m byte table R (row c.run-ends.result) (g.met.B.Block.wide _) _ c.run-ends.ensures.found full _
           record { tree = K.tree; root = K.root; weight = K.weight; compiled = K.compiled; sizes = K.sizes }
-          c.in_ok-feeds.behind S.2 (ap (λ v. bit (vec_items v)) c.swap.ensures.x_after) refl,
+          c.in_ok-feeds.behind S.2 c.hand_on.ensures refl,
     )
 
 pub returns : goal.returns

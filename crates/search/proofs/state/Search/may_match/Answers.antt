@@ -12,26 +12,18 @@ returns-then-waits g c F bytes hs ws R =
     let e : some ws ≡ true = sym (c.waits.ensures F R.matched hs ws R.finds) ∙ c.if-waits.true in
     sym (ap (λ (b : Bool). as_result (check b EndsWaiting (check (ltb c.args.blocks (blocks_for (weight F))) TooFewBlocks None))) e)
 
-pub returns-then-blocks-saturating_add : goal.returns-then-blocks-saturating_add
-returns-then-blocks-saturating_add g c F bytes hs ws R =
+pub returns-then-blocks-blocks_needed : goal.returns-then-blocks-blocks_needed
+returns-then-blocks-blocks_needed g c F bytes hs ws R =
     let e : some ws ≡ false = sym (c.waits.ensures F R.matched hs ws R.finds) ∙ c.if-waits.false in
-    let n : c.weight-weight.result ≡ weight F = c.weight-weight.ensures ∙ R.finds.loaded.weighs in
-    let light = c.args.self.now.finder.matcher.light in
-    let own = R.finds.loaded.weighs in
-    let mul = c.saturating_mul.ensures in
-    let add = c.saturating_add.ensures in
-    let test = c.if-blocks-saturating_add.true in
+    let n = c.weight.ensures.weight ∙ R.finds.loaded.weighs in
+    let m = c.blocks_needed.ensures c.weight.ensures.light in
     let few : ltb c.args.blocks (blocks_for (weight F)) ≡ true = lt-ltb c.args.blocks (blocks_for (weight F)) (omega arith) in
     sym (λ i. as_result (check (e i) EndsWaiting (check (few i) TooFewBlocks None)))
 
 pub returns : goal.returns
 returns g c F bytes hs ws R =
     let e : some ws ≡ false = sym (c.waits.ensures F R.matched hs ws R.finds) ∙ c.if-waits.false in
-    let n : c.weight-weight.result ≡ weight F = c.weight-weight.ensures ∙ R.finds.loaded.weighs in
-    let light = c.args.self.now.finder.matcher.light in
-    let own = R.finds.loaded.weighs in
-    let mul = c.saturating_mul.ensures in
-    let add = c.saturating_add.ensures in
-    let test = c.if-blocks-saturating_add.false in
+    let n = c.weight.ensures.weight ∙ R.finds.loaded.weighs in
+    let m = c.blocks_needed.ensures c.weight.ensures.light in
     let enough : ltb c.args.blocks (blocks_for (weight F)) ≡ false = le-ltb c.args.blocks (blocks_for (weight F)) (omega arith) in
     sym (λ i. as_result (check (e i) EndsWaiting (check (enough i) TooFewBlocks None)))

@@ -1,16 +1,12 @@
-use Rattle.std.proofs.Common.{sym, arith}
-use Rattle.std.proofs.lemmas.Option.{slice_get_read, slice_get_past}
+use Rattle.std.proofs.Common.{◌≡◌, arith}
+use Rattle.std.proofs.lemmas.Grind.{common_steps}
+use Rattle.std.proofs.lemmas.Option.{gets}
+use Rattle.std.specs.List.{slice_get}
 use Rattle.tree.specs.Stands.{nodes_of}
 use Rattle.tree.proofs.Falling.{read_at}
 use Rattle.tree.proofs.store.Tree.node.Goals as goal
 
-pub returns-then-i-len : goal.returns-then-i-len
-returns-then-i-len c =
-    let t = c.args.self.now in
-    let e = slice_get_read (nodes_of t) _ _ _ t.nodes.ok.0 (omega arith) c.index.ensures in
-    record { value = sym e; parts = read_at _ _ _ t.falling e }
-
-pub returns-else-i-len : goal.returns-else-i-len
-returns-else-i-len c =
-    let t = c.args.self.now in
-    record { value = sym (slice_get_past (nodes_of t) _ (omega (arith, t.nodes.ok.0))); parts = tt }
+pub returns-clause-parts : goal.returns-clause-parts
+returns-clause-parts c =
+    let value : c.copied.result ≡ slice_get (nodes_of c.args.self.now) c.args.i = grind (arith, common_steps, gets) in
+    read_at _ _ _ c.args.self.now.falling value

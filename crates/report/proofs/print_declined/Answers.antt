@@ -1,0 +1,5 @@
+use Rattle.report.proofs.Decimals.{decimals_write}
+use Rattle.report.proofs.print_declined.Goals as goal
+
+pub returns-clause-decimals : goal.returns-clause-decimals
+returns-clause-decimals c = decimals_write
