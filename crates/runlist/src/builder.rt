@@ -7,7 +7,8 @@ use super::list::RunList;
 use super::runs::{Cursor, is_odd};
 use block::Block;
 
-// A list that is made from place 0 on: the bits before `place` stand.
+// A list that is made from place 0 on: the bits before `place` stand. That they do is said by each call, since it is about the list before
+// and after it.
 #[derive(Clone, Copy)]
 pub(crate) struct Builder {
     pub list: RunList,

@@ -106,7 +106,7 @@ impl Code {
         self.stay(into);
     }
 
-    // The marks at line starts, or at line feeds.
+    // The marks at line starts, or at line feeds: which of them, the row's number says, as it does in the step.
     pub(super) fn keep(&mut self, row: usize, into: Option<usize>)
         ensures starts { row ≡ starts_at → (d : ℕ) → Writes into d head self.old self.new }
         ensures feeds { row ≡ feeds_at → (d : ℕ) → Writes into d tail self.old self.new }
