@@ -22,7 +22,7 @@ impl From<FormFault> for ProgramFault {
     }
 }
 
-// What the fault is called outside: the refusal has the number and the place.
+// What the fault is called outside: the refusal has the number and the place. Written by hand, as above.
 impl From<ProgramFault> for Refusal {
     ghost from_gives = { λ e r. r ≡ refusal_of e };
 

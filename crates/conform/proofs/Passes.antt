@@ -1,10 +1,10 @@
 -- A lawful kind passes: what its calls owe is what the judges look for. Assumes nothing.
-use Rattle.std.proofs.Common.{◌≡◌, ℕ, zero, suc, ◌+◌, ◌-◌, ◌*◌, ◌<◌, ◌≤◌, Bool, true, false, ◌&&◌, ◌||◌, List, length, is_ok, Some, None, Ok, Err, Option, Result, sym, refl, ap, ◌∙◌, inl, inr, arith}
+use Rattle.std.proofs.Common.{◌≡◌, ℕ, zero, suc, ◌+◌, ◌-◌, ◌<◌, ◌≤◌, Bool, true, false, ◌&&◌, ◌||◌, List, length, is_ok, Ok, Err, Result, sym, refl, ap, ◌∙◌, inl, inr, arith}
 use native.Mathlib.Decide.{dec_lt}
 use Rattle.conform.specs.declared.Call.{Call}
 use Rattle.conform.specs.declared.Deviation.{Deviation}
-use Rattle.block.specs.Rows.{bit, tab, bit_of}
-use Rattle.block.specs.Calls.{answered, none_row, all_row, differ, enters, Advance, Add, Served, Put, First}
+use Rattle.block.specs.Rows.{bit, tab}
+use Rattle.block.specs.Calls.{answered, none_row, all_row, differ, enters, Advance, Add}
 use Rattle.block.specs.Sums.{over, sum}
 use Rattle.block.proofs.Rows.{bit_at, enters_last}
 use Rattle.block.proofs.Sums.{sums_agree_lem}
@@ -52,29 +52,11 @@ advance_seen w a enter r out some moves =
       fallen = λ h. moves.fallen ∙ sym (over_self (bit a) enter w ∙ enters_last enter (bit a) w (omega arith));
     }
 
--- one group more is put
-pub filled_more : (w : ℕ) (a : List Bool) (k byte : ℕ) (r : List Bool) (f : ℕ → Bool) → Served w k → Put w a k byte r → Agree (8 * k) (bit a) f
-    → ((j : ℕ) → j < 8 → bit_of byte j ≡ f (8 * k + j)) → Agree (8 * (k + 1)) (bit r) f
-filled_more w a k byte r f served put before here i h =
-    elim (dec_lt i (8 * k)) [
-      | yes l ↦ put.outside served i (inl l) ∙ before i l
-      | no l ↦
-          let back : 8 * k + (i - 8 * k) ≡ i = omega arith in
-          ap (bit r) (sym back) ∙ put.inside served (i - 8 * k) (omega arith) ∙ here (i - 8 * k) (omega arith) ∙ ap f back
-    ]
-
 -- the first one from i on, by the place i and the first one behind it
 module _ (w i : ℕ) (a : List Bool) (seen : i < answered w) where
-  pub first_here : bit a i ≡ true → First w a i (Some i)
-  first_here one = (omega arith, seen, one, λ p h l. absurd (omega arith))
-
   before : bit a i ≡ false → (e : ℕ) → ((p : ℕ) → i + 1 ≤ p → p < e → bit a p ≡ false) → (p : ℕ) → i ≤ p → p < e → bit a p ≡ false
   before off e none p h l =
       elim (dec_lt i p) [ yes u ↦ none p (omega arith) l | no u ↦ let same : p ≡ i = omega arith in ap (bit a) same ∙ off ]
-
-  pub first_later : bit a i ≡ false → (r : Option ℕ) → First w a (i + 1) r → First w a i r
-  first_later off None none = before off (answered w) none
-  first_later off (Some q) (from, to, one, none) = (omega arith, to, one, before off q none)
 
 -- what falls out of all and of none
 pub fallen_of : (w : ℕ) (a : List Bool) (k enter : Bool) (r : List Bool) (out : Bool) → 8 ≤ w → a ≡ tab w (λ i. k) → Advance w a enter r out → out ≡ k

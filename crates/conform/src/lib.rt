@@ -13,7 +13,7 @@ ghost use Rattle.conform.specs.Judged.{Agree, HasByte, Judged, SumJudged, call_o
 
 use block::{Block, WIDEST};
 
-// The members of the interface. Each `check_` below promises that a lawful kind passes, and nothing else.
+// The members of the interface.
 #[derive(Clone, Copy, PartialEq, Eq, Debug)]
 pub enum Call {
     Width,
@@ -50,6 +50,7 @@ pub enum Logic {
     Not,
 }
 
+// Written and not derived, for its `from_gives`.
 impl From<Logic> for Call {
     ghost from_gives = { λ op call. call ≡ call_of op };
 
@@ -185,6 +186,7 @@ pub fn judge_row<B: Block>(bytes: &[u8], block: B) -> Result<(), Deviation>
     judge(Call::Put, block, |k| byte_at(bytes, k))
 }
 
+// Each check from here on has one promise, that a lawful kind passes. The two blocks of a call stay two parameters, as in the call.
 fn check_logic<B: Block>(op: Logic, a: B, b: B) -> Result<(), Deviation>
     ensures { is_ok result ≡ true }
 {

@@ -3,7 +3,7 @@ use Rattle.std.proofs.Common.{◌≡◌, ℕ, zero, suc, ◌+◌, ◌-◌, ◌<�
 use mathlib.Core.Bool.{and-true}
 use Rattle.std.proofs.Math.Bool.{and-false}
 use Rattle.std.proofs.lemmas.List.{length-map}
-use Rattle.std.proofs.lemmas.Bool.{cases_eq, le-leb, lt-leb, eq-eqb, ne_eqb}
+use Rattle.std.proofs.lemmas.Bool.{cases_eq, le-leb, eq-eqb, ne_eqb}
 use Rattle.form.specs.Form.{Form, Forms, quote, set, out, seq, or, star, rep, start, end, nil, cons}
 use Rattle.form.specs.Positions.{only}
 use Rattle.theory.specs.Pattern.{Pattern, leaf, many, plus, eps, head, tail}
@@ -132,11 +132,6 @@ module _ (c r : ℕ) (place : Place) (x y : Code) where
   order_one i j nf (a_form {f = f} {fs = nil} a b) h e k = subst (λ l. Walks c (length l) r place (pattern f c) x y) (sym (append-nil (classes f))) (k f a)
   order_one i j nf (a_form {f = f} {fs = cons g gs} a b) h e k = absurd (not_nil nf e (h (cons g gs) b))
 
-  pub either_one : {t : Tree} {fs : Forms} (i j : ℕ) (nf : Bool) → Row t fs (node.Cons i j) → ((gs : Forms) → StandAll t gs j → nf ≡ is_nil gs) → nf ≡ true
-      → ((f : Form) → Stands t f i → Walks c (length (classes f)) r place (pattern f c) x y) → Walks c (length (or_nothing fs (all_classes fs))) r place (one_of fs c) x y
-  either_one i j nf (a_form {f = f} {fs = nil} a b) h e k = subst (λ l. Walks c (length l) r place (pattern f c) x y) (sym (append-nil (classes f))) (k f a)
-  either_one i j nf (a_form {f = f} {fs = cons g gs} a b) h e k = absurd (not_nil nf e (h (cons g gs) b))
-
   pub either_more : {t : Tree} {fs : Forms} (i j : ℕ) (nf : Bool) → Row t fs (node.Cons i j) → ((gs : Forms) → StandAll t gs j → nf ≡ is_nil gs) → nf ≡ false
       → ((f : Form) (gs : Forms) → Stands t f i → StandAll t gs j → Walks c (length (classes f) + length (or_nothing gs (all_classes gs))) r place (Pattern.alt (pattern f c) (one_of gs (c + length (classes f)))) x y)
       → Walks c (length (or_nothing fs (all_classes fs))) r place (one_of fs c) x y
@@ -147,10 +142,6 @@ module _ (c r : ℕ) (place : Place) (x y : Code) where
 pub order_rest : {t : Tree} {fs : Forms} {n : Node} (c : ℕ) (place : Place) (x y : Code) → Row t fs n → ((i j : ℕ) → n ≡ node.Cons i j → ⊥) → Writes place.into place.depth eps x y → Walks c (length (all_classes fs)) c place (in_order_of fs c) x y
 order_rest c place x y no_form h w few = (omega arith, w)
 order_rest c place x y (a_form {i = i} {j = j} a b) h w few = absurd (h i j refl)
-
-pub either_rest : {t : Tree} {fs : Forms} {n : Node} (c r : ℕ) (place : Place) (x y : Code) → Row t fs n → ((i j : ℕ) → n ≡ node.Cons i j → ⊥) → Walks c 1 r place (leaf c) x y → Walks c (length (or_nothing fs (all_classes fs))) r place (one_of fs c) x y
-either_rest c r place x y no_form h w = w
-either_rest c r place x y (a_form {i = i} {j = j} a b) h w = absurd (h i j refl)
 
 module _ (c r next : ℕ) (place p q : Place) (ahead behind : Bool) (x y z : Code) where
   pub order_more : {t : Tree} {fs : Forms} (i j : ℕ) (nf : Bool) → Row t fs (node.Cons i j) → ((gs : Forms) → StandAll t gs j → nf ≡ is_nil gs) → nf ≡ false
@@ -321,9 +312,6 @@ loop_walks c next q place p x x₁ x₂ x₃ x₄ x₅ x₆ y F here h ps p₁ p
 module _ (c r : ℕ) (place : Place) (x y : Code) (l m : ℕ) (F : Form) where
   abbrev A : Pattern
   A = Pattern.seq (copies l (pattern F c)) (up_to (m - l) (pattern F c))
-
-  pub falling_walks : m < l → Walks c 1 r place (leaf c) x y → Walks c (length (classes (rep l m F))) r place (pattern (rep l m F) c) x y
-  falling_walks h w = subst (λ b. Walks c (length (cond b (cond (eqb m 0) [] (classes F)) (nothing ∷ []))) r place (cond b A (leaf c)) x y) (sym (lt-leb l m h)) w
 
 settled : (b : Bool) (v : ℕ) → cond b v v ≡ v
 settled true v = refl

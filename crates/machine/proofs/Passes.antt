@@ -1,5 +1,5 @@
 -- Steps in order, and passes that end. Assumes nothing.
-use Rattle.std.proofs.Common.{◌≡◌, ℕ, zero, suc, ◌+◌, ◌-◌, ◌<◌, ◌≤◌, Bool, true, false, List, [], ◌∷◌, length, get_or, take, sym, refl, ap, ◌∙◌, subst, inl, inr, add-one, arith, take_all}
+use Rattle.std.proofs.Common.{◌≡◌, ℕ, zero, suc, ◌+◌, ◌-◌, ◌<◌, ◌≤◌, Bool, true, false, List, [], ◌∷◌, length, get_or, take, sym, refl, ap, ◌∙◌, subst, inl, inr, add-one, arith}
 use Rattle.std.proofs.lemmas.Bool.{false≢true}
 use Rattle.stream.specs.Tables.{rows}
 use Rattle.stream.proofs.Tables.{rows_wide}
@@ -27,9 +27,6 @@ module _ (w : ℕ) (ins : ℕ → Bool) where
       → z ≡ does w ins (get_or p i d) y → z ≡ runs w ins (take (i + 1) p) x
   runs_more p i d x y z l e f =
       f ∙ (ap (does w ins (get_or p i d)) e ∙ (sym (runs-take p i d x l) ∙ ap (λ n. runs w ins (take n p) x) (sym (add-one i))))
-
-  pub runs_all : (p : List Step) (i : ℕ) (x y : Machine) → length p ≤ i → y ≡ runs w ins (take i p) x → y ≡ runs w ins p x
-  runs_all p i x y l e = e ∙ ap (λ q. runs w ins q x) (take_all i p l)
 
   -- one pass more
   pub passes_more : (p : List Step) (m : List Bool) (x y z : Machine) (j : ℕ) → z ≡ runs w ins p (begun m y)

@@ -50,7 +50,7 @@ pub(crate) struct Pass<B> {
 }
 
 impl<B: Block> Pass<B> {
-    // One step. Each arm makes a pass of its two parts, and hands on no whole one: that copies the padding behind the flag too, and
+    // One step: a match, and no closure for each, since steps are data that the compiler keeps in a list. Each arm makes a pass of its two parts, and hands on no whole one: that copies the padding behind the flag too, and
     // took twice the time on heavy texts.
     pub(crate) fn act(
         self,

@@ -1,5 +1,5 @@
-// Tests of the matcher: forms over recordings of every length, and a flash at every place of two blocks, on the kinds that come with the
-// reader. Expected ends come from plain loops over the bytes of a line, one for each text.
+// Tests of the matcher on the kinds that come with the reader: forms over recordings of every length up to 200, and a flash at every place
+// of two blocks. Expected ends come from plain loops over the bytes of a line, one for each text.
 
 #![tactic(auto)]
 

@@ -16,7 +16,7 @@ use Rattle.std.proofs.lemmas.List.{length_push, length-append, length-take, leng
 use Rattle.tree.specs.declared.node.Range.{Range}
 use Rattle.tree.specs.declared.store.Tree.{Tree}
 use Rattle.tree.specs.Stands.{nodes_of, bytes_of, ranges_of, item, Pushed, Quoted}
-use Rattle.reader.specs.Reading.{Between, RoomAt, Added, CountRead, CountsRead, ItemRead, ItemsRead, HeadedRead, FormRead, SingleRead, ListRead, SomeRead}
+use Rattle.reader.specs.Reading.{Between, RoomAt, Added, CountsRead, ItemRead, ItemsRead, HeadedRead, FormRead, SingleRead, ListRead, SomeRead}
 
 -- the token that a pattern has found
 pub as_open : (x : List ℕ) (p s e : ℕ) (t : Token) → t ≡ token.Open → Next t x p s e → Lexes x p opening s e
@@ -29,22 +29,8 @@ as_quote x p s e t q is l = subst (λ v. Next v x p s e) is l
 pub word_on : {x : List ℕ} {p s e : ℕ} {w : List ℕ} → Lexes x p (word w) s e → p < e
 word_on l = omega (arith, l.skips.rises, l.token.some)
 
-pub word_within : {x : List ℕ} {p s e : ℕ} {w : List ℕ} → Lexes x p (word w) s e → e ≤ length x
-word_within l = l.token.run.within
-
 pub shut_on : {x : List ℕ} {p s e : ℕ} → Lexes x p closing s e → p < e
 shut_on l = omega (arith, l.skips.rises, l.token.to)
-
-pub counts_read : {x y : List ℕ} {p q r m n : ℕ} → CountRead x p q 0 m → y ≡ x → CountRead y q r m n → CountsRead x p r m n
-counts_read {x} {y} {p} {q} {r} {m} {n} a same b =
-    record {
-      reads = λ us f t.
-          let g = b.reads us f (subst (λ v. Tokens v us r f) (sym same) t) in
-          let h = a.reads g.0 f (subst (λ v. Tokens v g.0 q f) same g.1) in
-          (h.0, h.1, (h.2.0, g.2.0, h.2.1 ∙ ap (λ v. word h.2.0 ∷ v) g.2.1, h.2.2, g.2.2));
-      bounds = (b.least, b.most);
-      on = omega (arith, a.on, b.on);
-    }
 
 pub items_more : {x y : List ℕ} {p q r : ℕ} (t u v : Tree) (kept : List Range) (a : ItemRead x p q t u) → y ≡ x → ItemsRead y q r u v kept → ItemsRead x p r t v (a.range ∷ kept)
 items_more {x} {y} {p} {q} {r} t u v kept a same b =
@@ -73,10 +59,6 @@ quote_long {x} {s = s} l =
 pub room_on : {x y : List ℕ} {p q : ℕ} {t : Tree} → RoomAt x t p → y ≡ x → p ≤ q → RoomAt y t q
 room_on r same h =
     record { short = omega (arith, ap length same, r.short); nodes = omega (arith, r.nodes); bytes = omega (arith, r.bytes); ranges = omega (arith, r.ranges) }
-
-pub room_added : {x y : List ℕ} {p q less : ℕ} {t u : Tree} → RoomAt x t p → Added p q less t u → y ≡ x → RoomAt y u q
-room_added r a same =
-    record { short = omega (arith, ap length same, r.short); nodes = omega (arith, r.nodes, a.nodes); bytes = a.bytes; ranges = a.ranges }
 
 pub room_push : {x y : List ℕ} {p q : ℕ} {t u : Tree} → RoomAt x t p → Added p q 1 t u → y ≡ x → q ≤ length y → length (nodes_of u) < longest
 room_push r a same h = omega (arith, ap length same, r.short, r.nodes, a.nodes)
@@ -219,16 +201,6 @@ some_read {x} {y} {p} {q} {r} {d} {i} {j} {k} {t} {u} {v} {z} a same b w =
             bytes = omega (arith, b.added.bytes, ap length w.bytes);
             ranges = omega (arith, b.added.ranges, ap length w.ranges);
           };
-    }
-
-pub single_read : {x y : List ℕ} {p q r s d i : ℕ} {t u : Tree} → FormRead x p q d t u i → y ≡ x → Lexes y q closing s r → SingleRead x p r d t u i
-single_read {x} {y} {p} {q} {r} {s} {d} {i} {t} {u} a same l =
-    let n = a.added in
-    record {
-      form = a.form;
-      stands = a.stands;
-      reads = λ us f k. a.reads (closing ∷ us) f (s, r, subst (λ v. Lexes v q closing s r) same l, k);
-      added = record { grows = n.grows; on = omega (arith, n.on, shut_on l); nodes = omega (arith, n.nodes, shut_on l); bytes = omega (arith, n.bytes, shut_on l); ranges = omega (arith, n.ranges, shut_on l) };
     }
 
 pub open_read : {x y : List ℕ} {p s m q d e i : ℕ} {t u v : Tree} {n : Node} → Lexes x p opening s m → y ≡ x → e ≡ d + 1 → HeadedRead y m q e t u n → d < deepest → Pushed u v n i → FormRead x p q d t v i

@@ -7,10 +7,8 @@ use std::io;
 // The places of a block's ones, each behind a space.
 fn places<B: Block>(rt: &HostRuntime, block: B) -> io::Result<String> {
     let mut text = String::new(rt.alloc());
-    for place in 0..B::width() {
-        if block.first(place) == Some(place) {
-            write!(text, " {place}")?;
-        }
+    for place in (0..B::width()).filter(|place| block.first(*place) == Some(*place)) {
+        write!(text, " {place}")?;
     }
     Ok(text)
 }

@@ -5,7 +5,7 @@ use replay::Request;
 use search::Call;
 use std::alloc::{AllocError, Global};
 
-// What a line asks of the search.
+// What a line asks of the search. A verb and no `Call`: a call borrows its bytes, and a line owns them.
 #[derive(Clone, Copy)]
 enum Verb {
     Load,
@@ -32,7 +32,6 @@ pub enum Parsed {
     Call(Line),
     // How many working blocks the calls behind it get.
     Blocks(usize),
-    Nothing,
 }
 
 impl Verb {
@@ -112,6 +111,7 @@ fn escaped(text: &[u8]) -> Option<(u8, &[u8])> {
 fn unescape(heap: Global, text: &[u8]) -> Result<Option<Vec<u8>>, AllocError> {
     let mut bytes = Vec::with_capacity(heap, text.len())?;
     let mut rest = text;
+    // counted, so that the loop is seen to end
     for _ in 0..text.len() {
         let Some((first, tail)) = rest.split_first() else {
             break;
@@ -130,24 +130,21 @@ fn unescape(heap: Global, text: &[u8]) -> Result<Option<Vec<u8>>, AllocError> {
     Ok(Some(bytes))
 }
 
-// Reads a line, where calls get so many working blocks.
-pub fn parse(heap: Global, text: &str, blocks: usize) -> Result<Parsed, AllocError> {
+// Reads a line, where calls get so many working blocks; none where it is no call.
+pub fn parse(heap: Global, text: &str, blocks: usize) -> Result<Option<Parsed>, AllocError> {
     let (word, rest) = text.split_once(' ').unwrap_or((text, ""));
     if word == "blocks" {
-        return Ok(match rest.parse::<usize>() {
-            Ok(n) => Parsed::Blocks(n),
-            Err(_) => Parsed::Nothing,
-        });
+        return Ok(rest.parse::<usize>().ok().map(Parsed::Blocks));
     }
     let Some(verb) = Verb::named(word) else {
-        return Ok(Parsed::Nothing);
+        return Ok(None);
     };
-    Ok(match unescape(heap, rest.as_bytes())? {
-        Some(bytes) => Parsed::Call(Line {
-            verb,
-            bytes,
-            blocks,
-        }),
-        None => Parsed::Nothing,
-    })
+    let Some(bytes) = unescape(heap, rest.as_bytes())? else {
+        return Ok(None);
+    };
+    Ok(Some(Parsed::Call(Line {
+        verb,
+        bytes,
+        blocks,
+    })))
 }

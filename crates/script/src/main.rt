@@ -1,7 +1,7 @@
 // Performs a script of calls on a newborn search, and prints an account of what each answers.
 //
 // A line of standard input is a call: `load TEXT`, `rewind`, `feed PIECE`, `draw`, `close`, `taken`, `weight` or `waiting`; or
-// `blocks N`, which says how many working blocks the later calls get. In a piece `\n` stands for a line feed, `\\` for a
+// `blocks N`, which says how many working blocks the later calls get. In a text or a piece `\n` stands for a line feed, `\\` for a
 // backslash and `\xHH` for any byte. The first argument names the kind of block.
 
 #![tactic(auto)]
@@ -27,9 +27,9 @@ fn read(rt: &HostRuntime) -> anyhow::Result<Vec<Line>> {
     for text in rt.lines(heap) {
         let text = text?;
         match parse(heap, text.as_str(), blocks)? {
-            Parsed::Call(line) => lines.push(line)?,
-            Parsed::Blocks(n) => blocks = n,
-            Parsed::Nothing => println!(rt; "no call: {text}")?,
+            Some(Parsed::Call(line)) => lines.push(line)?,
+            Some(Parsed::Blocks(n)) => blocks = n,
+            None => println!(rt; "no call: {text}")?,
         }
     }
     Ok(lines)

@@ -3,7 +3,7 @@ use Rattle.std.proofs.Common.{◌≡◌, ℕ, zero, suc, ◌+◌, ◌-◌, ◌%�
 use native.Mathlib.Decide.{dec_lt}
 use Rattle.std.proofs.Math.Seq.{take-append-add, take-length}
 use Rattle.std.specs.List.{slice_get}
-use Rattle.std.proofs.lemmas.List.{append-nil, nil_from_length, take-append-le, length-take-le}
+use Rattle.std.proofs.lemmas.List.{append-nil, take-append-le, length-take-le}
 use Rattle.std.proofs.lemmas.Option.{slice_get_within, get_or_from_slice_get, slice_get-get_or}
 use Rattle.std.proofs.lemmas.Bool.{false≢true, eq-eqb, or_left}
 use Rattle.limits.specs.Limits.{longest_recording, need}
@@ -265,14 +265,6 @@ module _ {B : Type 0} (row : B → List Bool) (w : ℕ) (eight : 8 ≤ w) where
       ap (λ q. get_or bytes q feed) at ∙ ap (λ x. get_or x (length R.matched + (n - 1)) feed) R.parts ∙ get_or-append-add R.matched (gathered_of s) (n - 1) feed
       ∙ get_or_from_slice_get (gathered_of s) (n - 1) b feed is in
       sym (opens_last (tape bytes) (length bytes) (omega arith) ∙ ap (λ v. eqb v feed) here)
-
-  -- nothing is gathered
-  pub none_gathered : (s : Search B) (F : Form) (bytes : List ℕ) (hs ws : List Place) → Running row w s F bytes hs ws → slice_get (gathered_of s) (length (gathered_of s) - 1) ≡ None
-      → (b : Bool) → b ≡ s.finder.matcher.starts → b ≡ opens (tape bytes) (length bytes)
-  none_gathered s F bytes hs ws R last b is =
-      let none = nil_from_length (gathered_of s) (no_last (gathered_of s) last) in
-      let all : bytes ≡ R.matched = R.parts ∙ ap (λ l. R.matched ++ l) none ∙ append-nil R.matched in
-      is ∙ R.goes.carried.starts ∙ ap (λ x. opens (tape x) (length x)) (sym all)
 
 -- ---- the end of a recording, matched
 

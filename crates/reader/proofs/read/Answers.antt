@@ -1,11 +1,8 @@
-use Rattle.std.proofs.Common.{refl, inl, inr}
+use Rattle.std.proofs.Common.{inl}
 use Rattle.tree.proofs.Only.{stands_once}
 use Rattle.std.proofs.lemmas.Result.{MatchResult-weaker}
 use Rattle.grammar.proofs.Decided.{one_verdict}
 use Rattle.reader.proofs.read.Goals as goal
-
-pub returns-then-text-gt-LONGEST : goal.returns-then-text-gt-LONGEST
-returns-then-text-gt-LONGEST c = record { settles = inr (c.if-text-gt-LONGEST.true, refl); once = one_verdict _ }
 
 pub returns : goal.returns
 returns c =

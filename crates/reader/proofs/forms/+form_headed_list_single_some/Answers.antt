@@ -1,10 +1,8 @@
-use Rattle.std.proofs.Common.{◌+◌, [], ◌∷◌, length, refl, ap, ◌∙◌, subst, arith, rules}
+use Rattle.std.proofs.Common.{◌+◌, [], ◌∷◌, length, refl, ap, ◌∙◌, subst, arith}
 use Rattle.std.proofs.lemmas.Result.{MatchResult-weaker}
 use Rattle.std.proofs.lemmas.Option.{MatchOption-at_some}
 use Rattle.lexer.specs.Places.{text_of, place_of, start_of}
 use Rattle.lexer.specs.Tokens.{opening, word}
-use Rattle.tree.specs.Nodes.{falls}
-use Rattle.tree.specs.Stands.{nodes_of}
 use Rattle.tree.proofs.Growing.{stands_more, holds_falls, cons_falls}
 use Rattle.grammar.specs.Names.{name}
 use Rattle.grammar.specs.declared.Head.TheVariants as head
@@ -15,7 +13,7 @@ use Rattle.grammar.proofs.Going.{stray_at, refuse_form, refuse_deep, refuse_word
 use Rattle.reader.specs.Faults.{verdict}
 use Rattle.reader.specs.Reading.{SomeRead}
 use Rattle.reader.proofs.Exits.{exits, missed, told}
-use Rattle.reader.proofs.Parts.{as_open, as_quote, word_on, open_on, shut_on, quote_long, room_on, room_added, room_push, set_read, out_read, seq_read, or_read, star_read, rep_read, start_read, end_read, nil_read, some_read, single_read, open_read, quote_read, list_some}
+use Rattle.reader.proofs.Parts.{as_open, as_quote, open_on, room_on, room_push, set_read, out_read, seq_read, or_read, star_read, rep_read, start_read, end_read, nil_read, some_read, open_read, quote_read, list_some}
 use Rattle.reader.proofs.forms.+form_headed_list_single_some.Goals as goal
 
 -- form
@@ -29,12 +27,6 @@ form-returns-in_err-deeper-in-Open-clause-reads t c =
     let none = missed c.deeper.result _ _ _ _ c.ok_or.ensures.value c.in_err-deeper-in-Open.was c.deeper.ensures in
     exits _ _ _ _ c.from_residual-in_err-deeper-in-Open.ensures.1
     (λ σ. rw none.1 (refuse_deep _ σ none.0 refl l c.start.ensures))
-
-pub form-headed-requires : goal.form-headed-requires
-form-headed-requires t c =
-    let l = as_open (text_of c.args.lexer.now) (place_of c.args.lexer.now) (start_of c.next.new.self) (place_of c.next.new.self) _ c.in-Open.is c.in_ok-next.ensures.token in
-    let on = open_on l in
-    (search rules, room_on c.requires c.next.ensures.same (omega arith))
 
 pub form-returns-in_err-node-in-Open : goal.form-returns-in_err-node-in-Open
 form-returns-in_err-node-in-Open t c =
@@ -55,19 +47,6 @@ form-returns-in_ok-node-in-Open t c =
     let in_it = told c.deeper.result _ _ _ _ c.ok_or.ensures.value c.in_ok-deeper-in-Open.was c.deeper.ensures in
     record { same = c.in_ok-node-in-Open.ensures.same ∙ c.next.ensures.same; reads = open_read l c.next.ensures.same in_it.1 c.in_ok-node-in-Open.ensures.reads in_it.0 (MatchOption-at_some _ _ _ c.unwrap.ensures c.push.ensures.pushed) }
 
-pub form-unwrap-node-requires : goal.form-unwrap-node-requires
-form-unwrap-node-requires t c =
-    let l = as_quote (text_of c.args.lexer.now) (place_of c.args.lexer.now) (start_of c.next.new.self) (place_of c.next.new.self) _ c.in-Quote.q c.in-Quote.is c.in_ok-next.ensures.token in
-    let long = quote_long l in
-    c.quote.ensures.room (omega (arith, c.requires.bytes, c.requires.short, ap length c.next.ensures.same, c.next.new.self.within))
-
-pub form-unwrap-requires-in-Quote : goal.form-unwrap-requires-in-Quote
-form-unwrap-requires-in-Quote t c =
-    let l = as_quote (text_of c.args.lexer.now) (place_of c.args.lexer.now) (start_of c.next.new.self) (place_of c.next.new.self) _ c.in-Quote.q c.in-Quote.is c.in_ok-next.ensures.token in
-    let long = quote_long l in
-    let k = MatchOption-at_some _ _ _ c.unwrap-node.ensures c.quote.ensures.kept in
-    c.push-in-Quote.ensures.room (omega (arith, ap length k.nodes, c.requires.nodes, c.requires.short, ap length c.next.ensures.same, c.next.new.self.within)) (ap (λ v. falls v (length (nodes_of c.quote.new.self))) k.node)
-
 pub form-returns-in-Quote : goal.form-returns-in-Quote
 form-returns-in-Quote t c =
     let l = as_quote (text_of c.args.lexer.now) (place_of c.args.lexer.now) (start_of c.next.new.self) (place_of c.next.new.self) _ c.in-Quote.q c.in-Quote.is c.in_ok-next.ensures.token in
@@ -87,33 +66,6 @@ headed-returns-in_err-head-clause-reads t c =
     let none = missed c.named.result _ _ _ _ c.ok_or.ensures.value c.in_err-head.was c.named.ensures in
     exits _ _ _ _ c.from_residual-in_err-head.ensures.1
     (λ σ. rw (none.1, c.unexpected.ensures) (refuse_word _ (heading c.args.depth.brackets) σ (no_head _ _ none.0) refl c.in_ok-w.ensures.reads refl))
-
-pub headed-some_items-requires : goal.headed-some_items-requires
-headed-some_items-requires t c = let on = word_on c.in_ok-w.ensures.reads in room_on c.requires c.word.ensures.same (omega arith)
-
-pub headed-items-requires : goal.headed-items-requires
-headed-items-requires t c = let on = word_on c.in_ok-w.ensures.reads in room_on c.requires c.word.ensures.same (omega arith)
-
-pub headed-list-requires : goal.headed-list-requires
-headed-list-requires t c =
-    let on = word_on c.in_ok-w.ensures.reads in
-    (search rules, room_on c.requires c.word.ensures.same (omega arith))
-
-pub headed-some-requires : goal.headed-some-requires
-headed-some-requires t c =
-    let on = word_on c.in_ok-w.ensures.reads in
-    (search rules, room_on c.requires c.word.ensures.same (omega arith))
-
-pub headed-single-requires : goal.headed-single-requires
-headed-single-requires t c =
-    let on = word_on c.in_ok-w.ensures.reads in
-    (search rules, room_on c.requires c.word.ensures.same (omega arith))
-
-pub headed-single-requires-in-Rep : goal.headed-single-requires-in-Rep
-headed-single-requires-in-Rep t c =
-    let on = word_on c.in_ok-w.ensures.reads in
-    let further = c.in_ok-least-in-Rep.ensures.reads.on in
-    (search rules, room_on c.requires (c.in_ok-least-in-Rep.ensures.same ∙ c.word.ensures.same) (omega arith))
 
 pub headed-returns-in_err-some_items-in-Set : goal.headed-returns-in_err-some_items-in-Set
 headed-returns-in_err-some_items-in-Set t c =
@@ -207,11 +159,6 @@ headed-returns-in_ok-close-in-End t c =
     record { same = c.in_ok-close-in-End.ensures.same ∙ c.word.ensures.same; reads = end_read l c.word.ensures.same c.args.tree.now is c.requires c.in_ok-close-in-End.ensures.reads }
 
 -- list
-pub list-unwrap-requires : goal.list-unwrap-requires
-list-unwrap-requires t c =
-    let on = shut_on c.if-closes.ensures.token in
-    c.push.ensures.room (omega (arith, c.requires.nodes, c.requires.short, ap length c.closes.ensures.same, c.closes.new.self.within)) refl
-
 pub list-returns-then-closes : goal.list-returns-then-closes
 list-returns-then-closes t c =
     record { same = c.closes.ensures.same; reads = nil_read c.requires c.if-closes.ensures.token (MatchOption-at_some _ _ _ c.unwrap.ensures c.push.ensures.pushed) }
@@ -228,30 +175,12 @@ list-returns t c =
     }
 
 -- single
-pub single-returns-in_err-part : goal.single-returns-in_err-part
-single-returns-in_err-part t c =
-    record { same = c.in_err-part.ensures.same; reads = exits _ _ _ _ c.from_residual.ensures.1 (λ σ. c.in_err-part.ensures.reads (shut ∷ σ)) }
-
 pub single-returns-in_err-close : goal.single-returns-in_err-close
 single-returns-in_err-close t c =
     let a = c.in_ok-part.ensures.reads in
     record { same = c.in_err-close.ensures.same ∙ c.in_ok-part.ensures.same; reads = exits _ _ _ _ c.from_residual-in_err-close.ensures.1 (λ σ. beyond _ (form c.args.depth.brackets ∷ shut ∷ σ) (shut ∷ σ) _ (λ ts us ρ f k. past a.form f k) refl a.reads c.in_ok-part.ensures.same (c.in_err-close.ensures.reads σ)) }
 
-pub single-returns : goal.single-returns
-single-returns t c =
-    record { same = c.in_ok-close.ensures.same ∙ c.in_ok-part.ensures.same; reads = single_read c.in_ok-part.ensures.reads c.in_ok-part.ensures.same c.in_ok-close.ensures.reads }
-
 -- some
-pub some-returns-in_err-head : goal.some-returns-in_err-head
-some-returns-in_err-head t c =
-    record { same = c.in_err-head.ensures.same; reads = exits _ _ _ _ c.from_residual.ensures.1 (λ σ. c.in_err-head.ensures.reads (forms c.args.depth.brackets ∷ σ)) }
-
-pub some-list-requires : goal.some-list-requires
-some-list-requires t c =
-    let a = c.in_ok-head.ensures.reads in
-    let on = a.added.on in
-    (search rules, room_added c.requires a.added c.in_ok-head.ensures.same)
-
 pub some-returns-in_err-tail : goal.some-returns-in_err-tail
 some-returns-in_err-tail t c =
     let a = c.in_ok-head.ensures.reads in

@@ -7,7 +7,7 @@ use Rattle.grammar.proofs.Going.{refuse_word, refuse_falling, no_item, item_word
 use Rattle.std.specs.Option.{option_map}
 use Rattle.std.proofs.lemmas.Option.{MatchOption-at_some, none-some}
 use Rattle.reader.proofs.Exits.{exits, lacks, has}
-use Rattle.reader.proofs.Parts.{word_on, word_within}
+use Rattle.reader.proofs.Parts.{word_on}
 use Rattle.reader.proofs.items.item.Goals as goal
 
 pub returns-in_err-w : goal.returns-in_err-w
@@ -24,9 +24,6 @@ pub returns-then-r-clause-reads : goal.returns-then-r-clause-reads
 returns-then-r-clause-reads c =
     let is = has c.spelt.result _ _ c.ok_or.ensures.value c.in_ok-r.was in
     λ σ. refuse_falling _ (item_in c.in_ok-r.r) σ (sym c.spelt.ensures ∙ ap (option_map item_in) is) c.if-r.true refl c.in_ok-w.ensures.reads c.start.ensures
-
-pub unwrap-requires : goal.unwrap-requires
-unwrap-requires c = let l = c.in_ok-w.ensures.reads in c.range.ensures.room (omega (arith, c.requires.short, c.requires.ranges, word_on l, word_within l))
 
 pub returns-clause-reads : goal.returns-clause-reads
 returns-clause-reads c =

@@ -1,14 +1,11 @@
 use Rattle.std.proofs.Common.{◌≡◌, ◌+◌, ◌-◌, ◌&&◌, cond, eqb, length, Some, sym, refl, ap, ◌∙◌, ⊎_elim, arith}
-use Rattle.tree.proofs.Shapes.{found, found_row, none_stands, none_stand, no_nil, no_cons}
+use Rattle.tree.proofs.Shapes.{found, found_row, none_stand, no_nil, no_cons}
 use Rattle.std.proofs.lemmas.Bool.{ne_eqb}
 use Rattle.theory.specs.Written.{classes, pattern}
 use Rattle.emit.specs.declared.place.Place.{Place}
 use Rattle.emit.proofs.Joining.{star_taken, gather_taken}
-use Rattle.emit.proofs.Walked.{quote_walks, set_walks, out_walks, seq_walks, or_walks, star_walks, rep_walks, start_walks, end_walks, order_one, order_more, order_rest, either_one, either_more, either_rest, into_walks, on_walks, run_walks, loop_walks, falling_walks, never_walks, repeat_walks, none_left, copy_writes, option_into, option_on}
+use Rattle.emit.proofs.Walked.{quote_walks, set_walks, out_walks, seq_walks, or_walks, star_walks, rep_walks, start_walks, end_walks, order_one, order_more, order_rest, either_more, into_walks, on_walks, run_walks, loop_walks, never_walks, repeat_walks, none_left, copy_writes, option_into, option_on}
 use Rattle.emit.proofs.code.Code.+copies_either_form_in_order_one_of_repeat_star_up_to.Goals as goal
-
-pub form-returns-in_default : goal.form-returns-in_default
-form-returns-in_default t c f h = absurd (none_stands _ _ f c.in_default.ensures.value h)
 
 pub form-returns-in-Quote : goal.form-returns-in-Quote
 form-returns-in-Quote t c f h = quote_walks c.args.class c.quote.result c.args.place c.args.self.now c.quote.new.self _ _ _ _ (found _ _ _ _ f c.in-Quote.is c.in-Some.ensures.value h) c.saturating_sub.ensures c.stretched.ensures c.quote.ensures
@@ -49,17 +46,8 @@ in_order-returns-else-no_form t c fs h = order_more c.args.class c.in_order.resu
 pub in_order-returns-in_default-node : goal.in_order-returns-in_default-node
 in_order-returns-in_default-node t c fs h = order_rest c.args.class c.args.place c.args.self.now c.stay.new.self (found_row _ _ _ _ fs refl c.in-Some.ensures.value h) c.in_default-node.not-Cons (c.stay.ensures c.args.place.depth)
 
-pub one_of-returns-in_default : goal.one_of-returns-in_default
-one_of-returns-in_default t c fs h = absurd (none_stand _ _ fs c.in_default.ensures.value h)
-
-pub one_of-returns-then-no_form : goal.one_of-returns-then-no_form
-one_of-returns-then-no_form t c fs h = either_one c.args.class c.form.result c.args.place c.args.self.now c.form.new.self _ _ _ (found_row _ _ _ _ fs c.in-Cons.is c.in-Some.ensures.value h) c.no_form.ensures c.if-no_form.true c.form.ensures
-
 pub one_of-returns-else-no_form : goal.one_of-returns-else-no_form
 one_of-returns-else-no_form t c fs h = either_more c.args.class c.either.result c.args.place c.args.self.now c.either.new.self _ _ _ (found_row _ _ _ _ fs c.in-Cons.is c.in-Some.ensures.value h) c.no_form.ensures c.if-no_form.false c.either.ensures
-
-pub one_of-returns-in_default-node : goal.one_of-returns-in_default-node
-one_of-returns-in_default-node t c fs h = either_rest c.args.class c.leaf.result c.args.place c.args.self.now c.leaf.new.self (found_row _ _ _ _ fs refl c.in-Some.ensures.value h) c.in_default-node.not-Cons c.leaf.ensures
 
 pub either-returns-in-Some : goal.either-returns-in-Some
 either-returns-in-Some t c f fs a b = into_walks c.args.class c.one_of.result c.form-next.result c.in-Some.row c.args.place c.deeper.result c.args.self.now f fs _ _ a b c.put.new.self c.form-next.new.self c.put-in-Some.new.self c.one_of.new.self c.in-Some.is c.deeper.ensures.place c.deeper.ensures.depth c.put.ensures c.form-next.ensures c.put-in-Some.ensures c.one_of.ensures
@@ -72,9 +60,6 @@ star-returns-then-single t c f h = run_walks c.args.class _ c.args.place c.args.
 
 pub star-returns : goal.star-returns
 star-returns t c f h = loop_walks c.args.class c.form-next.result c.fresh-row.result c.args.place c.round.result c.args.self.now _ c.put.new.self c.put-2.new.self c.form-next.new.self c.put-3.new.self c.put-4.new.self c.stay.new.self f c.fresh-row.ensures.here (sym (c.single.ensures f c.args.class h) ∙ c.if-single.false) c.round.ensures (star_taken _ _ refl c.fresh-row.ensures.counted refl refl) c.put.ensures c.put-2.ensures (c.form-next.ensures f h) c.put-3.ensures c.put-4.ensures (c.stay.ensures 0)
-
-pub repeat-returns-then-least-most : goal.repeat-returns-then-least-most
-repeat-returns-then-least-most t c f h = falling_walks c.args.class c.leaf.result c.args.place c.args.self.now c.leaf.new.self _ _ f (omega arith) c.leaf.ensures
 
 pub repeat-returns-then-most-eq0 : goal.repeat-returns-then-most-eq0
 repeat-returns-then-most-eq0 t c f h = never_walks c.args.class c.args.place c.args.self.now c.stay.new.self _ _ f (omega arith) (omega arith) (c.stay.ensures c.args.place.depth)
