@@ -7,7 +7,6 @@ use block::Block;
 use flash::{Flashes, list_flashes};
 use refusal::{End, Refusal};
 use std::alloc::{AllocError, Global};
-use std::test::Fail;
 use stream::{BASIS, ByteSet, back, class, match_star, transpose};
 
 // What the stream calls find in one block of samples, by places.
@@ -32,7 +31,7 @@ pub fn places<B: Block>(heap: Global, block: B, n: usize) -> Result<Vec<usize>, 
 }
 
 // Transposes the samples, makes classes of them, matches and transposes back.
-pub fn exercise<B: Block>(heap: Global, samples: &[u8], carry: bool) -> Result<Found, Fail> {
+pub fn exercise<B: Block>(heap: Global, samples: &[u8], carry: bool) -> Result<Found, Fault> {
     let mut table = blocks::<B>(heap)?;
     transpose(samples, &mut table)?;
     let lit = class(&table, ByteSet::none().with(b'#'))?;
@@ -48,12 +47,38 @@ pub fn exercise<B: Block>(heap: Global, samples: &[u8], carry: bool) -> Result<F
     })
 }
 
+// Why an exercise could not be made.
+#[derive(Drop, Debug)]
+pub enum Fault {
+    Memory,
+    Refused(Refusal),
+}
+
+impl From<AllocError> for Fault {
+    fn from(_e: AllocError) -> Fault {
+        Fault::Memory
+    }
+}
+
+impl From<std::alloc::AllocFailed<usize>> for Fault {
+    fn from(_e: std::alloc::AllocFailed<usize>) -> Fault {
+        Fault::Memory
+    }
+}
+
+impl From<Refusal> for Fault {
+    fn from(e: Refusal) -> Fault {
+        Fault::Refused(e)
+    }
+}
+
 #[cfg(test)]
 mod tests {
     use super::*;
     use doubled::Doubled;
     use runlist::RunList;
     use std::process::Abort;
+    use std::test::Fail;
     use stream::transpose_and_back;
     use word::Word;
 

@@ -143,17 +143,15 @@ pub order_rest : {t : Tree} {fs : Forms} {n : Node} (c : ℕ) (place : Place) (x
 order_rest c place x y no_form h w few = (omega arith, w)
 order_rest c place x y (a_form {i = i} {j = j} a b) h w few = absurd (h i j refl)
 
-module _ (c r next : ℕ) (place p q : Place) (ahead behind : Bool) (x y z : Code) where
+module _ (c r next : ℕ) (place p q : Place) (x y z : Code) where
   pub order_more : {t : Tree} {fs : Forms} (i j : ℕ) (nf : Bool) → Row t fs (node.Cons i j) → ((gs : Forms) → StandAll t gs j → nf ≡ is_nil gs) → nf ≡ false
-      → ((gs : Forms) (c : ℕ) → StandAll t gs j → ahead ≡ empty (in_order_of gs c))
-      → ((f : Form) (c : ℕ) → Stands t f i → behind ≡ empty (pattern f c))
-      → p ≡ record { first = place.first; last = place.last && ahead; into = None; depth = place.depth }
-      → q ≡ record { first = place.first && behind; last = place.last; into = place.into; depth = place.depth }
+      → ((gs : Forms) (c : ℕ) → StandAll t gs j → p ≡ record { first = place.first; last = place.last && empty (in_order_of gs c); into = None; depth = place.depth })
+      → ((f : Form) (c : ℕ) → Stands t f i → q ≡ record { first = place.first && empty (pattern f c); last = place.last; into = place.into; depth = place.depth })
       → ((f : Form) → Stands t f i → Walks c (length (classes f)) next p (pattern f c) x y)
       → ((gs : Forms) → StandAll t gs j → Walks next (length (all_classes gs)) r q (in_order_of gs next) y z)
       → Walks c (length (all_classes fs)) r place (in_order_of fs c) x z
-  order_more i j nf (a_form {f = f} {fs = nil} a b) h e ls fi ps qs k k' few = absurd (not_nil nf (h nil b) e)
-  order_more i j nf (a_form {f = f} {fs = cons g gs} a b) h e ls fi ps qs k k' few =
+  order_more i j nf (a_form {f = f} {fs = nil} a b) h e ps qs k k' few = absurd (not_nil nf (h nil b) e)
+  order_more i j nf (a_form {f = f} {fs = cons g gs} a b) h e ps qs k k' few =
       let hs : Forms = cons g gs in
       let n : ℕ = c + length (classes f) in
       let l = length-append (classes f) (all_classes hs) in
@@ -163,11 +161,9 @@ module _ (c r next : ℕ) (place p q : Place) (ahead behind : Bool) (x y z : Cod
       let at : next ≡ n = A.0 in
       let B = k' hs b (omega arith) in
       let v : Writes None place.depth (stretch place.first (place.last && empty G) F) x y =
-      subst (λ s. Writes None place.depth (stretch place.first s F) x y) (ap (λ b. place.last && b) (ls hs n b)) (subst (λ s. Writes s.into s.depth (stretch s.first s.last F) x y) ps A.1) in
-      let w₁ : Writes place.into place.depth (stretch (place.first && behind) place.last (in_order_of hs next)) y z =
-      subst (λ s. Writes s.into s.depth (stretch s.first s.last (in_order_of hs next)) y z) qs B.1 in
+      subst (λ s. Writes s.into s.depth (stretch s.first s.last F) x y) (ps hs n b) A.1 in
       let w : Writes place.into place.depth (stretch (place.first && empty F) place.last G) y z =
-      subst (λ s. Writes place.into place.depth (stretch s place.last G) y z) (ap (λ b. place.first && b) (fi f c a)) (subst (λ s. Writes place.into place.depth (stretch (place.first && behind) place.last (in_order_of hs s)) y z) at w₁) in
+      subst (λ s. Writes place.into place.depth (stretch (place.first && empty F) place.last (in_order_of hs s)) y z) at (subst (λ s. Writes s.into s.depth (stretch s.first s.last (in_order_of hs next)) y z) (qs f c a) B.1) in
       (B.0 ∙ omega arith, seq_writes place.into place.depth (stretch place.first (place.last && empty G) F) (stretch (place.first && empty F) place.last G) x y z v w)
 
 -- ---- unions

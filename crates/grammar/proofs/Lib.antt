@@ -1,3 +1,4 @@
+pub mod Short
 pub mod Wants
 pub mod Runs
 pub mod Past

@@ -1,7 +1,7 @@
 -- The bytes of the full blocks of w places. Assumes nothing.
-use Rattle.std.proofs.Common.{◌≡◌, ℕ, zero, suc, ◌+◌, ◌-◌, ◌*◌, ◌/◌, ◌%◌, ◌<◌, ◌≤◌, cond, List, [], ◌∷◌, ◌++◌, length, take, drop, sym, ap, ◌∙◌, subst, append_assoc, mod-eq_of_lt, mul-le-mul_left, div-add-mod', le-div_iff_mul-le, zero-add, arith, length-append, take-append-drop, length-take-le, take-add}
-use native.Mathlib.Nat.{mod-add-mod, div-add-mod, mod-zero}
-use lib.Seq.{take-nil, take-append_seam, take-append-le}
+use Rattle.std.proofs.Common.{◌≡◌, ℕ, zero, suc, ◌+◌, ◌-◌, ◌*◌, ◌/◌, ◌%◌, ◌<◌, ◌≤◌, cond, List, [], ◌∷◌, ◌++◌, length, take, drop, sym, ap, ◌∙◌, subst, append_assoc, mod-eq_of_lt, mul-le-mul_left, div-add-mod', le-div_iff_mul-le, zero-add, arith, length-append, length-drop, take-append-drop, length-take-le, take-add}
+use native.Mathlib.Nat.{mod-add-mod, div-add-mod, mul-mod_right, mod-le, mod-zero}
+use lib.Seq.{take-nil, take-length, take-append_seam, take-append-le}
 use Rattle.form.specs.Meaning.{feed}
 use Rattle.form.specs.Positions.{opens, tape, closed}
 use Rattle.history.specs.Calls.{Open}
@@ -34,6 +34,17 @@ matched_partial w bytes = take-append-drop (filled w (length bytes)) bytes
 
 pub length-matched : (w : ℕ) (bytes : List ℕ) → length (matched w Open bytes) ≡ filled w (length bytes)
 length-matched w bytes = length-take-le (filled w (length bytes)) bytes (omega arith)
+
+pub length_partial : (w : ℕ) (bytes : List ℕ) → length (partial w bytes) ≡ length bytes % w
+length_partial w bytes =
+    let a = length-drop (filled w (length bytes)) bytes in
+    let b = mod-le (length bytes) w in
+    omega arith
+
+-- they are full blocks
+pub matched_blocks : (w : ℕ) (bytes : List ℕ) → length (matched w Open bytes) % w ≡ 0
+matched_blocks w bytes =
+    ap (λ n. n % w) (length-matched w bytes ∙ filled_blocks w (length bytes)) ∙ mul-mod_right w (length bytes / w)
 
 -- full blocks, and behind them less than a block
 pub behind_blocks : (w : ℕ) (m g : List ℕ) → length m % w ≡ 0 → length g < w → length (m ++ g) % w ≡ length g
@@ -86,3 +97,8 @@ matched_closed w bytes =
       partial w bytes ++ x,
       ap (λ (l : List ℕ). l ++ x) (sym (matched_partial w bytes)) ∙ append_assoc (matched w Open bytes) (partial w bytes) x,
     )
+
+-- full blocks alone
+pub matched_full : (w : ℕ) (bytes : List ℕ) → length bytes % w ≡ 0 → matched w Open bytes ≡ bytes
+matched_full w bytes z =
+    let n : filled w (length bytes) ≡ length bytes = omega arith in subst (λ k. take k bytes ≡ bytes) (sym n) (take-length bytes)

@@ -1,11 +1,15 @@
 -- The bits that enter steps and leave them, by number. Assumes nothing.
-use Rattle.std.specs.Prelude.{ℕ, Bool, false, vec_items, slice_index_or}
+use Rattle.std.specs.Prelude.{ℕ, Bool, false, vec_items, vec_len, slice_index_or}
 use Rattle.machine.specs.declared.carries.Carries.{Carries}
 use Rattle.machine.specs.declared.carries.Carry.{Carry}
 
 -- no bit
 abbrev pub no_carry : Carry
 no_carry = record { enter = false; leave = false }
+
+-- how many carries there are
+abbrev pub count_of : Carries → ℕ
+count_of c = vec_len c.bits
 
 abbrev pub carry_at : Carries → ℕ → Carry
 carry_at c k = slice_index_or (vec_items c.bits) k no_carry

@@ -1,6 +1,4 @@
 // The bits that go from block to block.
-ghost use Rattle.std.specs.Prelude.{◌≡◌, vec_len};
-ghost use Rattle.limits.specs.Limits.{heaviest};
 
 // The bit that enters a step from the block before, and the one that falls out of it, for the next.
 #[derive(Clone, Copy, Debug, Default, PartialEq, Eq)]
@@ -9,11 +7,10 @@ struct Carry {
     leave: bool,
 }
 
-// The carries of the heaviest form; a lighter one uses the first of them.
+// The carries of a program, or more than it asks for.
 #[derive(Drop)]
 pub struct Carries {
     bits: Vec<Carry>,
-    ghost long: { vec_len bits ≡ heaviest },
 }
 
 mod handing;

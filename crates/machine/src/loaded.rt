@@ -2,6 +2,7 @@
 ghost use Rattle.std.specs.Prelude.{◌≡◌, ◌+◌, ◌≤◌, length};
 ghost use Rattle.limits.specs.Limits.{heaviest};
 ghost use Rattle.emit.specs.Whole.{program_of, table_of};
+ghost use Rattle.machine.specs.Carrying.{count_of};
 ghost use Rattle.machine.specs.Fitting.{Each-prop};
 ghost use Rattle.program.specs.Compile.{Each, Within, classes_at, stars_at};
 
@@ -28,6 +29,7 @@ pub struct Matcher {
     ghost rows: { sizes.rows ≤ classes_at + weight },
     ghost fits: { Each (Within sizes.rows heaviest (stars_at sizes.classes) (stars_at sizes.classes + sizes.stars)) (program_of compiled) } by { Each-prop sizes.rows heaviest (stars_at sizes.classes) (stars_at sizes.classes + sizes.stars) (program_of compiled) },
     ghost few: { sizes.carries ≤ heaviest },
+    ghost long: { count_of carries ≡ heaviest },
 }
 
 mod blocks;

@@ -1,12 +1,11 @@
 // The steps of a program, one at a time.
 ghost use Rattle.std.specs.Prelude.{◌≡◌, ℕ, ◌≤◌, false, not, ◌||◌, length};
 ghost use Rattle.block.specs.Calls.{widest};
-ghost use Rattle.limits.specs.Limits.{heaviest};
 ghost use Rattle.stream.specs.MatchStar.{star_row, star_out};
 ghost use Rattle.theory.specs.Block.{step_row, step_out};
 ghost use Rattle.program.specs.Machine.{same, does};
 ghost use Rattle.program.specs.Compile.{Within};
-ghost use Rattle.machine.specs.Carrying.{entering, leaving};
+ghost use Rattle.machine.specs.Carrying.{count_of, entering, leaving};
 ghost use Rattle.machine.specs.Holding.{holding};
 ghost use Rattle.machine.specs.Lending.{Lent};
 
@@ -59,8 +58,9 @@ impl<B: Block> Pass<B> {
         carries: &mut Carries,
     ) -> Self
         requires seen { B.places ≤ widest }
-        requires range { (s : ℕ) × (e : ℕ) × Within (length registers.old.blocks.now) heaviest s e step }
+        requires range { (s : ℕ) × (e : ℕ) × Within (length registers.old.blocks.now) (count_of carries.old) s e step }
         ensures does { holding B.Block.row result.marks registers.new.blocks.now (leaving carries.new) result.changed ≡ does B.places (entering carries.old) step (holding B.Block.row self.marks registers.old.blocks.now (leaving carries.old) self.changed) }
+        ensures long { count_of carries.new ≡ count_of carries.old }
         ensures entering { entering carries.new ≡ entering carries.old }
         ensures lent { Lent registers.old registers.new }
     {

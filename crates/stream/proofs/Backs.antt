@@ -1,12 +1,14 @@
 -- The turns of `back`. Assumes nothing.
-use Rattle.std.proofs.Common.{◌≡◌, ℕ, ◌+◌, ◌*◌, ◌/◌, ◌%◌, ◌^◌, ◌<◌, Bool, List, length, get_or, set, sym, ap, ◌∙◌, subst, mod-eq_of_lt, arith, get_or-set_other, get_or-set_same}
+use Rattle.std.proofs.Common.{◌≡◌, ℕ, ◌+◌, ◌*◌, ◌/◌, ◌%◌, ◌^◌, ◌<◌, ◌≤◌, max, Bool, List, length, get_or, set, Ok, Err, Result, sym, ap, ◌∙◌, subst, inl, inr, mod-eq_of_lt, arith, get_or-set_other, get_or-set_same}
 use native.Mathlib.Decide.{dec_lt}
 use lib.Bits.{bit_and}
 use Rattle.block.specs.Rows.{bit, bit_of}
 use Rattle.block.proofs.Groups.{group, group_is, group_lt, bit_group}
 use Rattle.block.proofs.Numbers.{value_of}
 use Rattle.block.proofs.Rows.{bit_tab, value_ext}
-use Rattle.stream.specs.Tables.{rows, held, basis}
+use Rattle.block.specs.Calls.{answered}
+use Rattle.refusal.specs.declared.Refusal.{Refusal}
+use Rattle.stream.specs.Tables.{rows, held, basis, Transposed, Returns, RoundTrip, Keeps}
 
 -- the eight bytes from 8 k on, gathered
 abbrev Group : (ℕ → List Bool) → ℕ → ℕ → Type 0
@@ -52,3 +54,13 @@ pub held_basis : (w : ℕ) (bytes : List ℕ) (rows : ℕ → List Bool) → ((j
     → held rows i ≡ get_or bytes i 0
 held_basis w bytes rows h i l f =
     sym (byte_held rows i (get_or bytes i 0) f (λ j u. sym (ap (λ r. bit r i) (h j u) ∙ bit_tab w (λ p. bit_of (get_or bytes p 0) j) i l)))
+
+-- what `back` gives of a table that `transpose` has filled
+pub round_trip : {B : Type 0} (row : B → List Bool) (w : ℕ) (bytes old new : List ℕ) (before table : List B) (r : Result (Unit {0}) Refusal)
+    → 8 ≤ length before → max (length bytes) (length old) ≤ answered w → length table ≡ length before → ((i : ℕ) → get_or bytes i 0 < 2 ^ 8)
+    → Transposed row w bytes before table → Returns row w table old new r
+    → RoundTrip (length before) (answered w) bytes old new r × Keeps row w bytes before table r
+round_trip row w bytes old new before table (Ok _) eight most long byte t h =
+    ((eight, omega arith, omega arith, λ i l. h.2 i l ∙ held_basis w bytes (rows row table) t.first i (omega arith) (byte i)), t)
+round_trip row w bytes old new before table (Err e) eight most long byte t (inl d, same) = absurd (omega arith)
+round_trip row w bytes old new before table (Err e) eight most long byte t (inr d, same) = absurd (omega arith)

@@ -126,8 +126,6 @@ pub fn transpose_and_back<B: Block>(
     ensures table { Keeps B.Block.row B.places bytes.now table.old table.new result }
 {
     agree::<B>(table.len(), bytes.len().max(buffer.len()))?;
-    let blocks = table.first_chunk_mut::<BASIS>().unwrap();
-    fill(blocks, bytes);
-    write_back(blocks, buffer);
-    Ok(())
+    transpose(bytes, table)?;
+    back(table, buffer)
 }

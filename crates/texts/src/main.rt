@@ -108,20 +108,36 @@ fn other_ones(rt: &HostRuntime, tree: &mut Tree) -> io::Result<()> {
     Ok(())
 }
 
+// Each text is made as it is told, so that no other waits in memory.
 fn long_ones(rt: &HostRuntime, tree: &mut Tree) -> io::Result<()> {
     let heap = rt.alloc();
-    for (name, text) in [
-        ("a quote of 999 bytes", quoted(heap, 999)?),
-        ("a quote of 1000 bytes", quoted(heap, 1000)?),
-        ("fifteen seqs under seek", nested(heap, 15)?),
-        ("sixteen seqs under seek", nested(heap, 16)?),
-        ("4096 bytes", padded(heap, 4096)?),
-        ("4097 bytes", padded(heap, 4097)?),
-        ("a set of 1000 items", bare(heap, 1000)?),
-    ] {
-        tell(rt, tree, name, text.as_str())?;
-    }
-    Ok(())
+    tell(
+        rt,
+        tree,
+        "a quote of 999 bytes",
+        quoted(heap, 999)?.as_str(),
+    )?;
+    tell(
+        rt,
+        tree,
+        "a quote of 1000 bytes",
+        quoted(heap, 1000)?.as_str(),
+    )?;
+    tell(
+        rt,
+        tree,
+        "fifteen seqs under seek",
+        nested(heap, 15)?.as_str(),
+    )?;
+    tell(
+        rt,
+        tree,
+        "sixteen seqs under seek",
+        nested(heap, 16)?.as_str(),
+    )?;
+    tell(rt, tree, "4096 bytes", padded(heap, 4096)?.as_str())?;
+    tell(rt, tree, "4097 bytes", padded(heap, 4097)?.as_str())?;
+    tell(rt, tree, "a set of 1000 items", bare(heap, 1000)?.as_str())
 }
 
 // Every byte value as the only byte of a text.

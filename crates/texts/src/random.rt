@@ -118,9 +118,14 @@ fn bracket(tree: &mut Tree, random: &mut Random, depth: u8) -> Node {
     }
 }
 
+// Room for most random forms, so that printing one seldom moves it.
+const ROOM: usize = 512;
+
 fn text_of(rt: &HostRuntime, tree: &Tree, root: usize) -> Result<String, AllocError> {
     let form = Written { tree, root };
-    format!(in rt.alloc(); "(seek {form})")
+    let mut text = String::with_capacity(rt.alloc(), ROOM)?;
+    write!(text, "(seek {form})")?;
+    Ok(text)
 }
 
 // Whether a random form is printed, read and printed again as the same text.

@@ -51,6 +51,9 @@ row t (cons f fs) i n at h = subst (Row t (cons f fs)) (same_node (node.Cons h.0
 pub found_row : (t : Tree) (i : ℕ) (m n : Node) (fs : Forms) → m ≡ n → Some m ≡ slice_get (nodes_of t) i → StandAll t fs i → Row t fs n
 found_row t i m n fs is at h = subst (Row t fs) is (row t fs i m (sym at) h)
 
+pub none_stands : (t : Tree) (i : ℕ) (f : Form) → None ≡ slice_get (nodes_of t) i → Stands t f i → ⊥
+none_stands t i f at h = none-some h.0 (at ∙ h.1)
+
 pub none_stand : (t : Tree) (i : ℕ) (fs : Forms) → None ≡ slice_get (nodes_of t) i → StandAll t fs i → ⊥
 none_stand t i nil at h = none-some node.Nil (at ∙ h)
 none_stand t i (cons f fs) at h = none-some (node.Cons h.0 h.1) (at ∙ h.2)

@@ -35,6 +35,21 @@ impl Part {
     }
 }
 
+// The place of a form that the forms of a list follow. These are looked at in a star alone, where it matters whether they may be empty:
+// else a long list would be gone through again for each of its forms.
+fn before_list(place: Place, tree: &Tree, i: usize) -> Place
+    ensures { (fs : Forms) (c : ℕ) → StandAll tree.now fs i → result ≡ record { first = place.first; last = place.last && empty_of (in_order_of fs c); into = None; depth = place.depth } }
+{
+    place.ahead(place.last && all_empty(tree, i))
+}
+
+// The place of what follows a form, which is looked at in a star alone, too.
+fn behind_form(place: Place, tree: &Tree, i: usize) -> Place
+    ensures { (f : Form) (c : ℕ) → Stands tree.now f i → result ≡ record { first = place.first && empty_of (pattern f c); last = place.last; into = place.into; depth = place.depth } }
+{
+    place.behind(place.first && empty(tree, i))
+}
+
 impl Code {
     // The bytes of a quote, each with a class of its own. This and what follows answers the number of the next class.
     fn quote(&mut self, bytes: usize, class: usize, stretched: bool, into: Option<usize>) -> usize
@@ -108,9 +123,9 @@ impl Code {
                 if no_form(tree, tail) {
                     return self.form(tree, head, class, place);
                 }
-                let ahead = place.ahead(all_empty(tree, tail));
+                let ahead = before_list(place, tree, tail);
                 let next = self.form(tree, head, class, ahead);
-                let behind = place.behind(empty(tree, head));
+                let behind = behind_form(place, tree, head);
                 self.in_order(tree, tail, next, behind)
             }
             _ => {

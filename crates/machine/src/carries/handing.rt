@@ -1,7 +1,7 @@
 // How steps take these bits and leave them.
 ghost use Rattle.std.specs.Prelude.{◌≡◌, ℕ, ◌<◌, ◌≤◌, Bool, false, IfOk, length, slice_index_or};
 ghost use Rattle.limits.specs.Limits.{heaviest};
-ghost use Rattle.machine.specs.Carrying.{entering, leaving, no_carry};
+ghost use Rattle.machine.specs.Carrying.{count_of, entering, leaving, no_carry};
 ghost use Rattle.program.specs.Machine.{put};
 
 use crate::carries::{Carries, Carry};
@@ -21,9 +21,9 @@ fn hand_on(bits: &mut [Carry], n: usize)
 }
 
 impl Carries {
-    // No bit is set.
+    // Those of the heaviest form; a lighter one uses the first of them. No bit is set.
     pub(crate) fn new(heap: Global) -> Result<Carries, AllocError>
-        ensures { IfOk result (λ c. (k : ℕ) → entering c k ≡ false) }
+        ensures { IfOk result (λ c. (count_of c ≡ heaviest) × ((k : ℕ) → entering c k ≡ false)) }
     {
         let bits = vec![in heap; Carry::default(); HEAVIEST as usize]?;
         Ok(Carries { bits })
@@ -31,8 +31,9 @@ impl Carries {
 
     // Makes a step: the carry's bit enters, and the bit that falls out is kept for the next block.
     pub(crate) fn through<B, F: FnOnce(bool) -> (B, bool)>(&mut self, k: usize, step: F) -> B
-        requires range { k < heaviest }
+        requires range { k < count_of self.old }
         requires callable { F.IsAlwaysCallable step }
+        ensures long { count_of self.new ≡ count_of self.old }
         ensures entering { entering self.new ≡ entering self.old }
         ensures leaving { (out : Bool) × F.post step (entering self.old k) record { 0 = result; 1 = out } × (leaving self.new ≡ put (leaving self.old) k out) }
     {
@@ -43,15 +44,17 @@ impl Carries {
 
     // To the next block: what fell out of the first n steps enters there.
     pub(crate) fn hand_on(&mut self, n: usize)
-        requires { n ≤ heaviest }
-        ensures { (k : ℕ) → k < n → entering self.new k ≡ leaving self.old k }
+        requires { n ≤ count_of self.old }
+        ensures long { count_of self.new ≡ count_of self.old }
+        ensures entering { (k : ℕ) → k < n → entering self.new k ≡ leaving self.old k }
     {
         hand_on(self.bits.as_mut_slice(), n);
     }
 
     // No bit is set.
     pub(crate) fn forget(&mut self)
-        ensures { (k : ℕ) → entering self.new k ≡ false }
+        ensures long { count_of self.new ≡ count_of self.old }
+        ensures entering { (k : ℕ) → entering self.new k ≡ false }
     {
         self.bits.fill(Carry::default());
     }

@@ -16,7 +16,7 @@ use crate::rules::rule;
 use crate::runs::Program;
 use crate::shown::Shown;
 use block::Block;
-use limits::{WIDEST_KIND, blocks_needed};
+use limits::{HEAVIEST, WIDEST_KIND, blocks_needed};
 use marks::below;
 use program::CLASSES;
 use refusal::Refusal;
@@ -51,6 +51,7 @@ impl Matcher {
             steps: self.compiled.program(),
             stars: first..first + self.sizes.stars,
             rows: self.sizes.rows,
+            carries: HEAVIEST as usize,
         };
         let mut registers = Registers::over(blocks);
         program.run(&mut registers, &mut self.carries)

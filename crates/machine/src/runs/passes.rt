@@ -3,11 +3,10 @@
 ghost use Rattle.std.specs.Prelude.{◌≡◌, ℕ, ◌<◌, ◌≤◌, false, ◌⊎◌, length};
 ghost use Rattle.block.specs.Calls.{widest, none_row};
 ghost use Rattle.form.specs.Form.{Form};
-ghost use Rattle.limits.specs.Limits.{heaviest};
 ghost use Rattle.program.specs.Machine.{runs, repeated};
 ghost use Rattle.stream.specs.Tables.{rows};
 ghost use Rattle.machine.specs.Blocks.{Ready, Found};
-ghost use Rattle.machine.specs.Carrying.{entering, leaving};
+ghost use Rattle.machine.specs.Carrying.{count_of, entering, leaving};
 ghost use Rattle.machine.specs.Holding.{holding};
 ghost use Rattle.machine.specs.Lending.{Lent};
 
@@ -24,7 +23,9 @@ impl Program<'_> {
     pub(crate) fn run<B: Block>(&self, registers: &mut Registers<'_, B>, carries: &mut Carries) -> B
         requires seen { B.places ≤ widest }
         requires room { self.now.rows ≤ length registers.old.blocks.now }
+        requires many { self.now.carries ≤ count_of carries.old }
         ensures found { (F : Form) (t : ℕ → ℕ) (b : ℕ) → Ready F t b B.places self.now.steps.now self.now.stars.start self.now.stars.end (rows B.Block.row registers.old.blocks.now) (entering carries.old) → Found F t b B.places (B.Block.row result) (leaving carries.new) }
+        ensures long { count_of carries.new ≡ count_of carries.old }
         ensures entering { entering carries.new ≡ entering carries.old }
         ensures lent { Lent registers.old registers.new }
     {
@@ -53,7 +54,9 @@ impl Program<'_> {
     ) -> B
         requires seen { B.places ≤ widest }
         requires room { self.now.rows ≤ length registers.old.blocks.now }
+        requires many { self.now.carries ≤ count_of carries.old }
         ensures settled { (j : ℕ) × (holding B.Block.row result registers.new.blocks.now (leaving carries.new) false ≡ repeated B.places (entering carries.old) self.now.steps.now (B.Block.row marks) (holding B.Block.row marks registers.old.blocks.now (leaving carries.old) false) j) }
+        ensures long { count_of carries.new ≡ count_of carries.old }
         ensures entering { entering carries.new ≡ entering carries.old }
         ensures lent { Lent registers.old registers.new }
     {
@@ -74,7 +77,9 @@ impl Program<'_> {
     ) -> Pass<B>
         requires seen { B.places ≤ widest }
         requires room { self.now.rows ≤ length registers.old.blocks.now }
+        requires many { self.now.carries ≤ count_of carries.old }
         ensures runs { holding B.Block.row result.marks registers.new.blocks.now (leaving carries.new) result.changed ≡ runs B.places (entering carries.old) self.now.steps.now (holding B.Block.row marks registers.old.blocks.now (leaving carries.old) false) }
+        ensures long { count_of carries.new ≡ count_of carries.old }
         ensures entering { entering carries.new ≡ entering carries.old }
         ensures lent { Lent registers.old registers.new }
     {

@@ -17,7 +17,7 @@ pub returns-in-Ok-clause-reads : goal.returns-in-Ok-clause-reads
 returns-in-Ok-clause-reads c =
     let l = c.in_ok-w.ensures.reads in
     let is = has c.number.result _ _ c.ok_or.ensures.value c.in_ok-n.was in
-    record { reads = λ us r t. (word _ ∷ us, (_, _, l, t), (_, refl, sym c.number.ensures ∙ is ∙ ap Some (sym c.in-Ok.ensures.1))); least = c.if-n-least.true; most = omega (arith, c.in-Ok.ensures.0, c.in-Ok.ensures.1); on = word_on l }
+    record { reads = λ us r t. (word _ ∷ us, (_, _, l, t), (_, refl, sym c.number.ensures ∙ is ∙ ap Some (sym c.in-Ok.ensures.1))); least = omega (arith, c.if-n-least.true); most = omega (arith, c.in-Ok.ensures.0, c.in-Ok.ensures.1); on = word_on l }
 
 pub returns-in_default-clause-reads : goal.returns-in_default-clause-reads
 returns-in_default-clause-reads c =

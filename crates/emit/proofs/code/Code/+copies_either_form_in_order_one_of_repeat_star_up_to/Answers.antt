@@ -41,7 +41,7 @@ pub in_order-returns-then-no_form : goal.in_order-returns-then-no_form
 in_order-returns-then-no_form t c fs h = order_one c.args.class c.form.result c.args.place c.args.self.now c.form.new.self _ _ _ (found_row _ _ _ _ fs c.in-Cons.is c.in-Some.ensures.value h) c.no_form.ensures c.if-no_form.true c.form.ensures
 
 pub in_order-returns-else-no_form : goal.in_order-returns-else-no_form
-in_order-returns-else-no_form t c fs h = order_more c.args.class c.in_order.result c.form-next.result c.args.place c.ahead-ahead.result c.behind-behind.result c.all_empty.result c.empty.result c.args.self.now c.form-next.new.self c.in_order.new.self _ _ _ (found_row _ _ _ _ fs c.in-Cons.is c.in-Some.ensures.value h) c.no_form.ensures c.if-no_form.false c.all_empty.ensures c.empty.ensures c.ahead-ahead.ensures c.behind-behind.ensures c.form-next.ensures c.in_order.ensures
+in_order-returns-else-no_form t c fs h = order_more c.args.class c.in_order.result c.form-next.result c.args.place c.before_list-ahead.result c.behind_form-behind.result c.args.self.now c.form-next.new.self c.in_order.new.self _ _ _ (found_row _ _ _ _ fs c.in-Cons.is c.in-Some.ensures.value h) c.no_form.ensures c.if-no_form.false c.before_list-ahead.ensures c.behind_form-behind.ensures c.form-next.ensures c.in_order.ensures
 
 pub in_order-returns-in_default-node : goal.in_order-returns-in_default-node
 in_order-returns-in_default-node t c fs h = order_rest c.args.class c.args.place c.args.self.now c.stay.new.self (found_row _ _ _ _ fs refl c.in-Some.ensures.value h) c.in_default-node.not-Cons (c.stay.ensures c.args.place.depth)

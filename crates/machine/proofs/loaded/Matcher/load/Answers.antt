@@ -33,6 +33,7 @@ invariant_of-self-2 c =
       rows = omega arith;
       fits = compiled_fits F x n C deep few;
       few = let n = C.carries in omega arith;
+      long = c.args.self.now.long;
     }
 
 pub returns : goal.returns

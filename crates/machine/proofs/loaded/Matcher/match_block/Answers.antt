@@ -31,7 +31,7 @@ returns-then-piece-width g c =
       S.1,
       matches_full piece w (omega arith) m byte table R (row c.run-ends.result) (g.met.B.Block.wide _) _ c.run-ends.ensures.found full _
           record { tree = K.tree; root = K.root; weight = K.weight; compiled = K.compiled; sizes = K.sizes }
-          c.in_ok-feeds.behind S.2 c.hand_on.ensures refl,
+          c.in_ok-feeds.behind S.2 c.hand_on.ensures.entering refl,
     )
 
 pub returns : goal.returns

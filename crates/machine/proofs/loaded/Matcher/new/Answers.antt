@@ -13,6 +13,7 @@ invariant_of-result c =
       rows = omega arith;
       fits = none_fits _ _ x.0;
       few = omega arith;
+      long = c.in_ok-carries.ensures.0;
     }
 
 pub returns : goal.returns
@@ -23,6 +24,6 @@ returns c =
             compiled = record { program = x.0; sets = none_are _ x.1; classes = refl; stars = refl; carries = refl; rows = refl };
             nested = omega arith;
           }
-          c.in_ok-carries.ensures refl,
+          c.in_ok-carries.ensures.1 refl,
       refl,
     )

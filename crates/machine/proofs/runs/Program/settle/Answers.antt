@@ -1,5 +1,4 @@
 use Rattle.std.proofs.Common.{◌≡◌, ◌≤◌, suc, false, length, ap, ◌∙◌, arith}
-use Rattle.limits.specs.Limits.{heaviest}
 use Rattle.program.specs.Machine.{runs}
 use Rattle.machine.specs.Carrying.{entering, leaving}
 use Rattle.machine.specs.Holding.{holding}
@@ -12,11 +11,11 @@ passes-smaller g c =
     let program = c.args.self.now in
     let from = program.stars.start in
     let to = program.stars.end in
-    let lent = c.passes.invariant.2 in
+    let lent = c.passes.invariant.3 in
     let size = lent.long in
     let room = c.requires.room in
     let within : to ≤ length c.passes.registers.blocks.now = let w = program.within in omega arith in
-    falls g.B.Block.row g.B.Block.places g.met.B.Block.wide (entering c.passes.carries) program.rows heaviest program.steps.now from to
+    falls g.B.Block.row g.B.Block.places g.met.B.Block.wide (entering c.passes.carries) program.rows program.carries program.steps.now from to
     program.order program.fits c.passes.registers.blocks.now within c.args.marks
     (leaving c.passes.carries) c.pass-pass.result.marks c.pass-pass.new.registers.blocks.now (leaving c.pass-pass.new.carries)
     c.pass-pass.result.changed c.pass-pass.ensures.runs c.if-not-pass.false
@@ -37,5 +36,6 @@ passes-preserved g c =
             (holding row marks c.args.registers.now.blocks.now (leaving c.args.carries.now) false) begun last j run v.0.1,
       ),
       c.pass-pass.ensures.entering ∙ v.1,
-      lent_on v.2 c.pass-pass.ensures.lent,
+      c.pass-pass.ensures.long ∙ v.2,
+      lent_on v.3 c.pass-pass.ensures.lent,
     )

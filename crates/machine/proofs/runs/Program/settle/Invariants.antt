@@ -2,7 +2,7 @@ use Rattle.std.proofs.Common.{◌≡◌, ℕ, ◌-◌, false}
 use Rattle.stream.specs.Tables.{rows}
 use Rattle.program.specs.Machine.{runs, repeated}
 use Rattle.program.specs.Falls.{vacant}
-use Rattle.machine.specs.Carrying.{entering, leaving}
+use Rattle.machine.specs.Carrying.{count_of, entering, leaving}
 use Rattle.machine.specs.Holding.{holding}
 use Rattle.machine.specs.Lending.{Lent}
 use Rattle.machine.proofs.runs.Program.settle.Given as goal
@@ -15,6 +15,7 @@ invariant-passes g l =
     ≡ repeated g.B.Block.places (entering l.initial.carries) l.self.steps.now (g.B.Block.row l.marks)
     (holding g.B.Block.row l.marks l.initial.registers.blocks.now (leaving l.initial.carries) false) j))
     × (entering l.carries ≡ entering l.initial.carries)
+    × (count_of l.carries ≡ count_of l.initial.carries)
     × Lent l.initial.registers l.registers
 
 abbrev pub decreases-passes : goal.decreases-passes
