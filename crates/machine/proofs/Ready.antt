@@ -159,12 +159,13 @@ module _ (F : Form) (bytes piece : List ℕ) (w : ℕ) (pos : 0 < w) (m : Matche
 
 -- ---- the start of a recording
 
-pub fresh : (F : Form) (n : Matcher) → Runs F n → ((k : ℕ) → entering n.carries k ≡ false) → n.starts ≡ true → Matched F [] n
+pub fresh : (F : Form) (n : Matcher) → Runs F n → ((k : ℕ) → k < n.sizes.carries → entering n.carries k ≡ false) → n.starts ≡ true → Matched F [] n
 fresh F n runs none s =
-    let e : entering n.carries ≡ (λ k. false) = λ j k. none k j in
+    let few = runs.compiled.carries in
+    let same = carries_same (written F) 0 (λ k. false) (entering n.carries) (λ i _ l. sym (none i (omega arith))) in
     record {
       runs = runs;
-      carries = λ t h. subst (Standing F t 0) (sym e) (first_standing F t);
+      carries = λ t h. subst (Carried (streams F t) 0 (written F)) same (first_standing F t);
       starts = s;
     }
 

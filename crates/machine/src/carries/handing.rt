@@ -20,6 +20,17 @@ fn hand_on(bits: &mut [Carry], n: usize)
     }
 }
 
+// No bit enters the first n steps.
+fn forget(bits: &mut [Carry], n: usize)
+    requires { n ≤ length bits.old }
+    ensures { (k : ℕ) → k < n → (slice_index_or bits.new k no_carry).enter ≡ false }
+{
+    let (used, _) = bits.split_at_mut(n);
+    for carry in used.iter_mut() {
+        *carry = Carry::default();
+    }
+}
+
 impl Carries {
     // Those of the heaviest form; a lighter one uses the first of them. No bit is set.
     pub(crate) fn new(heap: Global) -> Result<Carries, AllocError>
@@ -51,11 +62,12 @@ impl Carries {
         hand_on(self.bits.as_mut_slice(), n);
     }
 
-    // No bit is set.
-    pub(crate) fn forget(&mut self)
+    // No bit enters the first n steps.
+    pub(crate) fn forget(&mut self, n: usize)
+        requires { n ≤ count_of self.old }
         ensures long { count_of self.new ≡ count_of self.old }
-        ensures entering { (k : ℕ) → entering self.new k ≡ false }
+        ensures entering { (k : ℕ) → k < n → entering self.new k ≡ false }
     {
-        self.bits.fill(Carry::default());
+        forget(self.bits.as_mut_slice(), n);
     }
 }

@@ -62,7 +62,7 @@ impl Matcher {
         ensures keeps { Keeps self.old self.new }
         ensures matched { (F : Form) → Runs F self.old → Matched F [] self.new }
     {
-        self.carries.forget();
+        self.carries.forget(self.sizes.carries);
         self.starts = true;
     }
 

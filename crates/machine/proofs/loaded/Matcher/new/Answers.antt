@@ -24,6 +24,6 @@ returns c =
             compiled = record { program = x.0; sets = none_are _ x.1; classes = refl; stars = refl; carries = refl; rows = refl };
             nested = omega arith;
           }
-          c.in_ok-carries.ensures.1 refl,
+          (λ k _. c.in_ok-carries.ensures.1 k) refl,
       refl,
     )
